@@ -37,7 +37,7 @@ GENERIC = [
     "Vec<(u8, (A, super::c::C), Option<Vec<B>>)>",
 ]
 # What a type that contains itself is made of, where `$` is the type.
-PLAIN = ["u8", "i64", "bool", "String", "()", "Mode", "Place"]
+PLAIN = ["u8", "i64", "bool", "String", "()", "Mode", "Place", "Here"]
 AROUND = ["{}", "Vec<{}>", "Option<{}>", "Box<{}>", "Vec<Option<{}>>"]
 ITSELF = ["Vec<$>", "Box<$>", "Option<Box<$>>", "Option<Vec<$>>", "Vec<Box<$>>", "Vec<Vec<$>>"]
 TRAITS = ["Clone", "PartialEq<u8>", "'static", "super::c::T", "self::super::c::U<Vec<u8>>"]
@@ -132,7 +132,7 @@ def drawn_nested(draw, name, formats, words):
 
 
 def drawn(draw, number):
-    """A file with a struct, a tuple struct, an enum and a type that contains itself."""
+    """A file with a newtype, a struct, a tuple struct, an enum and a type that contains itself."""
     formats = " ".join(draw.sample(["bin", "json", "ron"], draw.randrange(1, 4)))
     case = (
         f', rename_all = "{draw.choice(CASES)}"'
@@ -148,6 +148,9 @@ def drawn(draw, number):
         "use crate::mode::Mode;",
         "use crate::map::place::{City, Place};",
         "use std::collections::{BTreeMap, LinkedList};",
+        f"// nanoserde: {formats}",
+        "#[derive(Drop)]",
+        "pub struct Here(pub u8);",
         f"// nanoserde: {formats}{case if names else ''}{denied}",
         "#[derive(Drop)]",
         f"pub struct S{number}{parameters}{end}",

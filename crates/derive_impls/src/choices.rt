@@ -129,9 +129,9 @@ fn append_view<'a>(
     let making = making(sheet.alloc, variants)?;
     let making = sheet.short(making.as_str())?;
     let mut holes = target.bounded_holes(sheet)?;
-    holes.put("IMPORTS", imports.as_str())?;
-    holes.put("CASES", cases.as_str())?;
-    holes.put("MAKING", making.as_str())?;
+    holes.put("IMPORTS", imports.as_str());
+    holes.put("CASES", cases.as_str());
+    holes.put("MAKING", making.as_str());
     sheet.write(VIEW, &holes)
 }
 
@@ -174,8 +174,8 @@ fn append_references<'a>(
     };
     sheet.import("ghost use Rattle.nano_schema.specs.UserTypes.{LegalVariant};")?;
     let mut holes = target.bounded_holes(sheet)?;
-    holes.put("EITHER", either)?;
-    holes.put("ARMS", arms.as_str())?;
+    holes.put("EITHER", either);
+    holes.put("ARMS", arms.as_str());
     sheet.write(REFERENCES, &holes)
 }
 

@@ -5,8 +5,7 @@ use crate::forms::{Form, STRICT};
 use crate::means::with_law;
 use crate::sheet::Sheet;
 use crate::target::Target;
-use crate::template::Holes;
-use derive_syntax::Directions;
+use derive_syntax::{Directions, Holes};
 use std::alloc::AllocError;
 
 /// Appends the impls of each format that is named above the type: what it is in bytes, and what in
@@ -106,22 +105,22 @@ fn append_impl<'a>(
     (template, body, arguments): (&str, &str, &str),
     taker: &str,
 ) -> Result<(), AllocError> {
-    let mut holes = target.holes(sheet.alloc)?;
-    holes.put("MODULE", codec.module)?;
-    holes.put("NAME", codec.name)?;
-    holes.put("PROOF", codec.proof)?;
-    holes.put("CHOSEN", codec.chosen)?;
-    holes.put("ARGUMENTS", arguments)?;
-    holes.put("HEADING", codec.heading)?;
-    holes.put("AGREES", target.agreement.agrees.as_str())?;
-    holes.put("DECODABLE", target.agreement.decodable.as_str())?;
+    let mut holes = target.holes(sheet.alloc);
+    holes.put("MODULE", codec.module);
+    holes.put("NAME", codec.name);
+    holes.put("PROOF", codec.proof);
+    holes.put("CHOSEN", codec.chosen);
+    holes.put("ARGUMENTS", arguments);
+    holes.put("HEADING", codec.heading);
+    holes.put("AGREES", target.agreement.agrees.as_str());
+    holes.put("DECODABLE", target.agreement.decodable.as_str());
     let body = holes.fill(body)?;
-    holes.put("BODY", body.as_str())?;
+    holes.put("BODY", body.as_str());
     let taker = holes.fill(taker)?;
-    holes.put("TAKER", taker.as_str())?;
+    holes.put("TAKER", taker.as_str());
     let bound = holes.fill(bound)?;
     let bounds = target.bounds(sheet.alloc, bound.as_str())?;
-    holes.put("BOUNDS", bounds.as_str())?;
+    holes.put("BOUNDS", bounds.as_str());
     let text = holes.fill(template)?;
     sheet.write(text.as_str(), &Holes::new(sheet.alloc))
 }

@@ -3,9 +3,8 @@
 use crate::labels::name_of;
 use crate::sheet::Sheet;
 use crate::target::Target;
-use crate::template::Holes;
 use crate::types::{path_text, type_text};
-use derive_syntax::{Field, Missing, missing_value};
+use derive_syntax::{Field, Holes, Missing, missing_value};
 use std::alloc::{AllocError, Global};
 
 /// A kind of default that is given: what it means and the value, as templates, and what the call
@@ -129,15 +128,15 @@ fn append_given<'a>(
 ) -> Result<(), AllocError> {
     let of = type_text(sheet.alloc, field.of)?;
     let mut holes = Holes::new(sheet.alloc);
-    holes.put("GIVEN", given)?;
-    holes.put("FIELD", field.name.text)?;
-    holes.put("NAME", name)?;
-    holes.put("OF", of.as_str())?;
-    holes.put("ARGUMENT", kind.argument)?;
+    holes.put("GIVEN", given);
+    holes.put("FIELD", field.name.text);
+    holes.put("NAME", name);
+    holes.put("OF", of.as_str());
+    holes.put("ARGUMENT", kind.argument);
     let meaning = holes.fill(kind.meaning)?;
-    holes.put("MEANING", meaning.as_str())?;
+    holes.put("MEANING", meaning.as_str());
     let value = holes.fill(kind.value)?;
-    holes.put("VALUE", value.as_str())?;
+    holes.put("VALUE", value.as_str());
     sheet.write(DEFAULT, &holes)?;
     if target.attributes.json.is_used() {
         sheet.write(JSON, &holes)?;

@@ -5,9 +5,8 @@ use crate::labels::append_labels;
 use crate::rows::{Around, Leaf};
 use crate::sheet::Sheet;
 use crate::target::Target;
-use crate::template::Holes;
 use crate::types::{optional_part, type_text};
-use derive_syntax::{Case, Field, field_name};
+use derive_syntax::{Case, Field, Holes, field_name};
 use std::alloc::{AllocError, Global};
 
 /// The fields that are read and written.
@@ -122,7 +121,7 @@ pub fn field_texts<'a>(
 /// A text for a field, from a template with its name and its type.
 fn field_text<'a>(alloc: Global, field: Field<'a>, template: &str) -> Result<String, AllocError> {
     let mut holes = Holes::new(alloc);
-    holes.put("NAME", field.name.text)?;
-    holes.put("TYPE", type_text(alloc, field.of)?.as_str())?;
+    holes.put("NAME", field.name.text);
+    holes.put("TYPE", type_text(alloc, field.of)?.as_str());
     holes.fill(template)
 }

@@ -4,11 +4,10 @@ use crate::held::in_turn;
 use crate::key_names::CITED;
 use crate::sheet::Sheet;
 use crate::target::Target;
-use crate::template::Holes;
 use crate::tuples::{PLACES, named};
 use crate::types::{listed, tuple_parts};
 use crate::views::imports_of;
-use derive_syntax::{Fault, Shape, Token, Type, Variant};
+use derive_syntax::{Fault, Holes, Shape, Token, Type, Variant};
 use std::alloc::{AllocError, Global};
 
 /// The ghost terms of a type that is a key.
@@ -96,18 +95,18 @@ fn append_impls<'a>(
     }
     let key = sheet.short(": nano_schema::Key")?;
     let sorted = sheet.short(": nano_schema::OrderedKey")?;
-    let mut holes = target.holes(sheet.alloc)?;
-    holes.put("BOUNDS", target.bounds(sheet.alloc, key.as_str())?.as_str())?;
+    let mut holes = target.holes(sheet.alloc);
+    holes.put("BOUNDS", target.bounds(sheet.alloc, key.as_str())?.as_str());
     holes.put(
         "SORTED",
         target.bounds(sheet.alloc, sorted.as_str())?.as_str(),
-    )?;
-    holes.put("ORDER", sheet.short(order)?.as_str())?;
-    holes.put("EXACT", sheet.short(terms.exact.as_str())?.as_str())?;
-    holes.put("FOLLOWS", sheet.short(terms.follows.as_str())?.as_str())?;
+    );
+    holes.put("ORDER", sheet.short(order)?.as_str());
+    holes.put("EXACT", sheet.short(terms.exact.as_str())?.as_str());
+    holes.put("FOLLOWS", sheet.short(terms.follows.as_str())?.as_str());
     let end = if terms.imports.is_empty() { "" } else { "\n" };
     let imports = format!(in sheet.alloc; "{}{end}", terms.imports)?;
-    holes.put("IMPORTS", imports.as_str())?;
+    holes.put("IMPORTS", imports.as_str());
     sheet.write(KEY, &holes)
 }
 

@@ -2,7 +2,7 @@
 
 use crate::names::in_type_name;
 use crate::sheet::Sheet;
-use crate::template::Holes;
+use derive_syntax::Holes;
 use std::alloc::{AllocError, Global};
 
 const LABEL: &str = "
@@ -55,8 +55,8 @@ pub fn append_labels(
 fn append_label(sheet: &mut Sheet, label: &str, name: &str) -> Result<(), AllocError> {
     sheet.import("ghost use Rattle.std.specs.Prelude.{codes};")?;
     let mut holes = Holes::new(sheet.alloc);
-    holes.put("TEXT", name)?;
-    holes.put("LABEL", label)?;
+    holes.put("TEXT", name);
+    holes.put("LABEL", label);
     sheet.write(LABEL, &holes)
 }
 
@@ -66,9 +66,9 @@ fn append_numbered(sheet: &mut Sheet, label: &str, names: &[String]) -> Result<(
     sheet.import("ghost use Rattle.std.specs.Prelude.{◌==◌};")?;
     sheet.import("ghost use Rattle.std.specs.Prelude.{if◌then◌else◌};")?;
     let mut holes = Holes::new(sheet.alloc);
-    holes.put("CASES", cases(sheet.alloc, names)?.as_str())?;
-    holes.put("ARMS", arms(sheet.alloc, names)?.as_str())?;
-    holes.put("LABEL", label)?;
+    holes.put("CASES", cases(sheet.alloc, names)?.as_str());
+    holes.put("ARMS", arms(sheet.alloc, names)?.as_str());
+    holes.put("LABEL", label);
     sheet.write(LABELS, &holes)
 }
 

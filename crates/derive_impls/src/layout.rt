@@ -151,7 +151,8 @@ fn are_short(items: &[Piece]) -> bool {
     items.len() > 1
 }
 
-/// The list with as many items on a line of so many columns as it has space for.
+/// The list with as many items on a line of so many columns as it has space for. The last item may
+/// end where any line does.
 pub(crate) fn filled(
     alloc: Global,
     brackets: Brackets<'_>,
@@ -160,10 +161,12 @@ pub(crate) fn filled(
 ) -> Result<String, AllocError> {
     let indent = brackets.indent.saturating_add(STEP);
     let mut output = String::from_str(alloc, brackets.open)?;
-    let mut used = columns;
-    for item in items {
+    let mut used = COLUMNS;
+    for (i, item) in items.iter().enumerate() {
+        let is_last = i.saturating_add(1) == items.len();
+        let most = if is_last { COLUMNS } else { columns };
         let width = width(item.flat.as_str()).saturating_add(1);
-        if used.saturating_add(width) >= columns {
+        if used.saturating_add(width) >= most {
             start_line(&mut output, indent)?;
             used = indent.saturating_add(width);
         } else {

@@ -26,7 +26,6 @@ pub mod rows;
 mod seen;
 pub mod sheet;
 pub mod target;
-pub mod template;
 mod transparent;
 pub mod tuples;
 pub mod types;

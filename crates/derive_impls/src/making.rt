@@ -1,9 +1,8 @@
 //! The body that makes an enum of the content of its variant.
 
 use crate::layout::Items;
-use crate::template::Holes;
 use crate::variants::{content_of, named_variant};
-use derive_syntax::Variant;
+use derive_syntax::{Holes, Variant};
 use std::alloc::{AllocError, Global};
 
 const TEST: &str = "        let later = match $OF {
@@ -47,8 +46,8 @@ fn step<'a>(
     let made = named_variant(alloc, variant, Items::Values, made)?;
     let pattern = content_of(alloc, variant, Items::Patterns, pattern)?;
     let mut holes = Holes::new(alloc);
-    holes.put("OF", of)?;
-    holes.put("MADE", made.as_str())?;
-    holes.put("PATTERN", pattern.as_str())?;
+    holes.put("OF", of);
+    holes.put("MADE", made.as_str());
+    holes.put("PATTERN", pattern.as_str());
     holes.fill(template)
 }

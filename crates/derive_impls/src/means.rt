@@ -2,7 +2,7 @@
 
 use crate::codec::Codec;
 use crate::sheet::Sheet;
-use crate::template::Holes;
+use derive_syntax::Holes;
 use std::alloc::AllocError;
 
 // For each value, and not for the functions that say what values mean: so a reader's proof need not
@@ -41,9 +41,9 @@ fn law_of(sheet: &mut Sheet, codec: &Codec) -> Result<String, AllocError> {
     let name = sheet.names.take(sheet.alloc, wanted.as_str())?;
     sheet.import("ghost use Rattle.std.specs.Prelude.{◌≡◌};")?;
     let mut holes = Holes::new(sheet.alloc);
-    holes.put("MODULE", codec.module)?;
-    holes.put("NAME", codec.name)?;
-    holes.put("LAW", name.as_str())?;
+    holes.put("MODULE", codec.module);
+    holes.put("NAME", codec.name);
+    holes.put("LAW", name.as_str());
     let text = holes.fill(LAW)?;
     sheet.write(text.as_str(), &Holes::new(sheet.alloc))?;
     sheet.laws.push((codec.module, name.clone()?))?;

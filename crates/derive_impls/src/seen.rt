@@ -62,11 +62,11 @@ pub(crate) fn append_seen<'a>(
     seen: &Seen,
 ) -> Result<(), AllocError> {
     let mut holes = target.bounded_holes(sheet)?;
-    holes.put("FIELDS", seen.types.as_str())?;
-    holes.put("PARTS", seen.refs.as_str())?;
-    holes.put("VIEW", seen.view.as_str())?;
-    holes.put("PATTERN", seen.pattern.as_str())?;
-    holes.put("MADE", seen.made.as_str())?;
-    holes.put("BORROWED", seen.borrowed.as_str())?;
+    holes.put("FIELDS", seen.types.as_str());
+    holes.put("PARTS", seen.refs.as_str());
+    holes.put("VIEW", seen.view.as_str());
+    holes.put("PATTERN", seen.pattern.as_str());
+    holes.put("MADE", seen.made.as_str());
+    holes.put("BORROWED", seen.borrowed.as_str());
     sheet.write(RECORD, &holes)
 }

@@ -3,8 +3,8 @@
 use crate::keys::Known;
 use crate::layout::{COLUMNS, start_line, width};
 use crate::names::Names;
-use crate::template::Holes;
 use crate::uses::Uses;
+use derive_syntax::Holes;
 use std::alloc::{AllocError, Global};
 
 /// How far a line is indented that goes on with a ghost member, but for the space before a word.
@@ -89,8 +89,8 @@ impl Sheet {
     /// Appends the name of a type.
     pub fn alias(&mut self, name: &str, of: &str) -> Result<(), AllocError> {
         let mut holes = Holes::new(self.alloc);
-        holes.put("NAME", name)?;
-        holes.put("OF", of)?;
+        holes.put("NAME", name);
+        holes.put("OF", of);
         self.write("\ntype $NAME = $OF;", &holes)
     }
 

@@ -7,8 +7,7 @@ use crate::held::are_deep;
 use crate::parameters::{bounds, shape_types};
 use crate::rows::NO_ROW;
 use crate::sheet::Sheet;
-use crate::template::Holes;
-use derive_syntax::{Attributes, Definition, Fault, Shape, Token};
+use derive_syntax::{Attributes, Definition, Fault, Holes, Shape, Token};
 use std::alloc::{AllocError, Global};
 
 /// The type whose impls are written.
@@ -69,26 +68,26 @@ impl<'a> Target<'a> {
     }
 
     /// The holes that its names stand in.
-    pub fn holes(&self, alloc: Global) -> Result<Holes, AllocError> {
+    pub fn holes(&self, alloc: Global) -> Holes {
         let mut holes = Holes::new(alloc);
-        holes.put("FULL", self.full.as_str())?;
-        holes.put("TYPE", self.name.text)?;
-        holes.put("ROW", self.row.as_str())?;
-        holes.put("VALUES", self.values.as_str())?;
-        holes.put("REFS", self.refs.as_str())?;
-        holes.put("OPEN", self.open.as_str())?;
-        Ok(holes)
+        holes.put("FULL", self.full.as_str());
+        holes.put("TYPE", self.name.text);
+        holes.put("ROW", self.row.as_str());
+        holes.put("VALUES", self.values.as_str());
+        holes.put("REFS", self.refs.as_str());
+        holes.put("OPEN", self.open.as_str());
+        holes
     }
 
     /// The holes that its names and its parameters stand in, each of which is a `Value`.
     pub(crate) fn bounded_holes(&self, sheet: &mut Sheet) -> Result<Holes, AllocError> {
-        let mut holes = self.holes(sheet.alloc)?;
+        let mut holes = self.holes(sheet.alloc);
         let bound = sheet.short(": nano_schema::Value")?;
         let bounds = self.bounds(sheet.alloc, bound.as_str())?;
-        holes.put("BOUNDS", bounds.as_str())?;
+        holes.put("BOUNDS", bounds.as_str());
         let bound = sheet.short(": nano_schema::Value + 'a")?;
         let borrowed = self.borrowed_bounds(sheet.alloc, bound.as_str())?;
-        holes.put("LIFETIME", borrowed.as_str())?;
+        holes.put("LIFETIME", borrowed.as_str());
         Ok(holes)
     }
 

@@ -30,9 +30,9 @@ pub(crate) fn append_transparent<'a>(
     let of = type_text(sheet.alloc, part)?;
     let bound = sheet.short(": nano_schema::Value")?;
     let bounds = target.bounds(sheet.alloc, bound.as_str())?;
-    let mut holes = target.holes(sheet.alloc)?;
-    holes.put("OF", of.as_str())?;
-    holes.put("BOUNDS", bounds.as_str())?;
+    let mut holes = target.holes(sheet.alloc);
+    holes.put("OF", of.as_str());
+    holes.put("BOUNDS", bounds.as_str());
     sheet.write(VALUE, &holes)?;
     append_codecs(sheet, target, &TRANSPARENT, &TRANSPARENT)
 }

@@ -6,10 +6,9 @@ use crate::layout::Items;
 use crate::seen::{Seen, append_seen};
 use crate::sheet::Sheet;
 use crate::target::Target;
-use crate::template::Holes;
 use crate::types::type_text;
 use crate::variants::{PARTS, bracketed};
-use derive_syntax::Type;
+use derive_syntax::{Holes, Type};
 use std::alloc::{AllocError, Global};
 
 /// Appends the impls of a tuple struct.
@@ -83,7 +82,7 @@ pub fn part_types<'a>(
 /// A text for a part, from a template with its type.
 fn part_type<'a>(alloc: Global, part: Type<'a>, template: &str) -> Result<String, AllocError> {
     let mut holes = Holes::new(alloc);
-    holes.put("TYPE", type_text(alloc, part)?.as_str())?;
+    holes.put("TYPE", type_text(alloc, part)?.as_str());
     holes.fill(template)
 }
 

@@ -4,9 +4,8 @@ use crate::defaults::{bound_field, made_field};
 use crate::fields::{field_texts, row_fields};
 use crate::layout::{Brackets, Items, Piece, list};
 use crate::rows::paired;
-use crate::template::Holes;
 use crate::tuples::named;
-use derive_syntax::{Content, Variant};
+use derive_syntax::{Content, Holes, Variant};
 use std::alloc::{AllocError, Global};
 
 /// What a pattern calls the parts of a tuple variant.
@@ -132,12 +131,12 @@ fn arm<'a>(
 ) -> Result<String, AllocError> {
     let mut holes = Holes::new(alloc);
     let pattern = named_variant(alloc, variant, Items::Patterns, (12, 12))?;
-    holes.put("PATTERN", pattern.as_str())?;
+    holes.put("PATTERN", pattern.as_str());
     let refs = content_of(alloc, variant, Items::Values, (16, 27))?;
-    holes.put("REFS", refs.as_str())?;
+    holes.put("REFS", refs.as_str());
     let (lines, place) = steps(alloc, i, count)?;
-    holes.put("STEPS", lines.as_str())?;
-    holes.put("PLACE", place.as_str())?;
+    holes.put("STEPS", lines.as_str());
+    holes.put("PLACE", place.as_str());
     holes.fill(ARM)
 }
 

@@ -55,7 +55,7 @@ pub(crate) fn append_definitions<'a>(
 ) -> Result<(), Fault> {
     let attributes = definition.attributes;
     let nested = nested_of(alloc, definition, "y")?;
-    let others = others_of(alloc, source, &nested)?;
+    let others = others_of(alloc, file.module, source, &nested)?;
     let mut text = definitions(alloc, &nested, has_several(attributes))?;
     if attributes.bin.is_used() {
         append_codecs_of(alloc, file.module, &others, &BIN, specs)?;
@@ -74,7 +74,7 @@ pub(crate) fn append_laws<'a>(
 ) -> Result<(), Fault> {
     let value = format!(in alloc; "(out-{} x)", definition.name.text)?;
     let nested = nested_of(alloc, definition, value.as_str())?;
-    let others = others_of(alloc, source, &nested)?;
+    let others = others_of(alloc, file.module, source, &nested)?;
     let has_bin = definition.attributes.bin.is_used();
     let text = codec_laws(alloc, &nested, has_bin)?;
     proofs.say(text, cited_lines(alloc, file.module, &nested, has_bin)?)?;
@@ -91,7 +91,7 @@ pub(crate) fn append_text_definitions<'a>(
 ) -> Result<(), Fault> {
     let before = before(definition.attributes, format);
     let nested = nested_of(alloc, definition, "y")?;
-    let others = others_of(alloc, source, &nested)?;
+    let others = others_of(alloc, file.module, source, &nested)?;
     append_codecs_of(alloc, file.module, &others, &format.said, specs)?;
     let text = text_codec(alloc, &nested, format, before)?;
     specs.say(text, text_lines(alloc, file.module, &nested, before)?)?;
@@ -108,7 +108,7 @@ pub(crate) fn append_text_laws<'a>(
     let is_first = before(definition.attributes, format).is_none();
     let value = format!(in alloc; "(out-{} x)", definition.name.text)?;
     let nested = nested_of(alloc, definition, value.as_str())?;
-    let others = others_of(alloc, source, &nested)?;
+    let others = others_of(alloc, file.module, source, &nested)?;
     let text = text_laws(alloc, &nested, format, is_first)?;
     let brought = text_cited(alloc, file.module, &nested, format, is_first)?;
     proofs.say(text, brought)?;

@@ -1,6 +1,5 @@
 //! What a file of definitions or laws brings in of the types that it is for.
 
-use crate::maps::has_maps;
 use crate::nested::Nested;
 use crate::text_codec::TextTerms;
 use crate::text_layers::content_name;
@@ -43,15 +42,9 @@ pub(crate) fn text_lines(
         Some(text) => earlier_lines(alloc, module, nested, text)?,
         None => String::new(alloc),
     };
-    let maps = if has_maps(nested) {
-        format!(in alloc; ", {snake}_map_means")?
-    } else {
-        String::new(alloc)
-    };
     let mut holes = nested.holes(alloc);
     holes.put("OF", of.as_str());
     holes.put("SPECS", specs.as_str());
-    holes.put("MAPS", maps.as_str());
     holes.put("SEVERAL", several.as_str());
     holes.fill(TEXT_LINES)
 }
@@ -61,7 +54,7 @@ $OF.TheOpen.{$NAME-F}
 $OF.TheViews.{out-$NAME}
 $OF.TheFolds.{map-$NAME, fold_out-$NAME}
 $SPECS.{$NAMEContent, $SNAKE_opened, $SNAKE_view, $SNAKE_means, $SNAKE_means_step}
-$SPECS.{$SNAKE_depth, $SNAKE_depth_step$MAPS}
+$SPECS.{$SNAKE_depth, $SNAKE_depth_step}
 $SEVERAL";
 
 /// The lines that bring in what is legal, and the codec of an earlier format of texts.

@@ -175,11 +175,8 @@ fn row_proof(
     claim: Claim<'_>,
     chosen: &[Chosen],
 ) -> Result<String, AllocError> {
-    let later = later_name(alloc, nested, claim.infix)?;
-    match (
-        pairs_proof(alloc, claim.said, later.as_str(), chosen)?,
-        claim.said,
-    ) {
+    let later = later_lemma(claim.infix);
+    match (pairs_proof(alloc, claim.said, later, chosen)?, claim.said) {
         (None, _) => String::from_str(alloc, "refl"),
         (Some(proof), Said::Means(place)) if nested.is_enum => {
             format!(in alloc;
@@ -191,17 +188,10 @@ fn row_proof(
     }
 }
 
-/// The name of the lemma that what holds no values of the type itself makes nothing deeper, with
-/// an infix of a format, or nothing where the layers say it by themselves, as those of bytes do.
-pub(crate) fn later_name(
-    alloc: Global,
-    nested: &Nested<'_>,
-    infix: &str,
-) -> Result<String, AllocError> {
-    if infix.is_empty() {
-        return Ok(String::new(alloc));
-    }
-    format!(in alloc; "{}_{infix}later_depth", nested.names.snake)
+/// The lemma that what holds no values of the type itself makes nothing deeper, with an infix of a
+/// format, or nothing where the layers say it by themselves, as those of bytes do.
+fn later_lemma(infix: &str) -> &'static str {
+    if infix.is_empty() { "" } else { "later_depth" }
 }
 
 /// The proof for nested pairs of parts, if it takes one. Given is the lemma for those that hold no

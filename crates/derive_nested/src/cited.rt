@@ -3,7 +3,7 @@
 use crate::imports::Known;
 
 /// Those that every format cites.
-pub(crate) const SHARED: [Known; 22] = [
+pub(crate) const SHARED: [Known; 20] = [
     Known {
         module: "std.specs.Prelude",
         names: &[
@@ -46,10 +46,6 @@ pub(crate) const SHARED: [Known; 22] = [
     Known {
         module: "std.specs.Ordering",
         names: &["nat_cmp", "int_cmp", "bool_cmp"],
-    },
-    Known {
-        module: "std.specs.declared.cmp.Ordering",
-        names: &["Ordering"],
     },
     Known {
         module: "std.specs.Option",
@@ -126,10 +122,6 @@ pub(crate) const SHARED: [Known; 22] = [
         names: &["greatest"],
     },
     Known {
-        module: "nano_levels.proofs.EntriesLaws",
-        names: &["ordered_map_means-values"],
-    },
-    Known {
         module: "nano_schema.specs.declared.choices.Either",
         names: &["Either"],
     },
@@ -153,9 +145,10 @@ pub(crate) const SHARED: [Known; 22] = [
         module: "nano_schema_levels.proofs.StepsLaws",
         names: &[
             "by_option",
+            "later_depth",
             "list_depth",
             "list_means",
-            "map_steps",
+            "map_means",
             "option_means",
             "pair_depth",
             "pair_means",

@@ -1,7 +1,7 @@
 //! What a format adds to the definitions of a type that contains itself: that what a value means
 //! and how deep it is are said by the format's layer, and the record of both.
 
-use crate::cases::{Claim, Said, later_name, proof};
+use crate::cases::{Claim, Said, proof};
 use crate::definitions::cases;
 use crate::nested::Nested;
 use std::alloc::{AllocError, Global};
@@ -21,31 +21,9 @@ pub(crate) fn nested_record(
     nested: &Nested<'_>,
     format: Coded,
 ) -> Result<String, AllocError> {
-    let opened = opened(alloc, nested, format.infix)?;
-    let mut text = later_lemma(alloc, nested, format.infix, opened.as_str())?;
-    text.push_str(opened.as_str())?;
+    let mut text = opened(alloc, nested, format.infix)?;
     text.push_str(record(alloc, nested, format)?.as_str())?;
     Ok(text)
-}
-
-/// The lemma for parts that hold no values of the type itself before others, if a text cites it.
-fn later_lemma(
-    alloc: Global,
-    nested: &Nested<'_>,
-    infix: &str,
-    text: &str,
-) -> Result<String, AllocError> {
-    let name = later_name(alloc, nested, infix)?;
-    if infix.is_empty() || !text.contains(name.as_str()) {
-        return Ok(String::new(alloc));
-    }
-    format!(in alloc;
-        "
--- what holds no values of the type before what does
-pub {name} : {{a b : ℕ}} → a ≡ b → a ≡ max 0 b
-{name} e = omega (arith, e)
-"
-    )
 }
 
 /// That what a value means and how deep it is are said by the layer.

@@ -1,7 +1,6 @@
 //! The definitions of a type that contains itself that no format changes: what a value is seen as,
 //! what it means, how deep it is, and which meanings are legal.
 
-use crate::maps::map_lemma;
 use crate::nested::{Held, Nested};
 use crate::wrapped::atom;
 use std::alloc::{AllocError, Global};
@@ -15,7 +14,6 @@ pub(crate) fn definitions(
     let mut text = String::new(alloc);
     text.push_str(seen(alloc, nested)?.as_str())?;
     text.push_str(meant(alloc, nested)?.as_str())?;
-    text.push_str(map_lemma(alloc, nested)?.as_str())?;
     if has_several {
         text.push_str(legal(alloc, nested)?.as_str())?;
     }

@@ -5,11 +5,10 @@ use crate::answers::HEAD;
 use crate::brought::content_names;
 use crate::json_rows::{Appended, fields_proof};
 use crate::nested::{Held, Nested};
-use crate::template::Holes;
 use crate::text_codec::JSON;
 use crate::text_fields::{field_name, has_contents, has_long_row};
 use crate::text_layers::content_name;
-use derive_syntax::Case;
+use derive_syntax::{Case, Holes};
 use std::alloc::{AllocError, Global};
 
 /// The answers for what writes a struct in JSON, or the variants with named fields of an enum, if it
@@ -28,6 +27,7 @@ pub(crate) fn written_text(
     holes.put("HEAD", HEAD);
     holes.put("LIBRARY", library);
     holes.put("STEM", stem);
+    holes.put("BESIDE", beside(nested));
     holes.put("CITED", cited.as_str());
     holes.put("SPECS", specs.as_str());
     holes.put("GOALS", goals);
@@ -53,7 +53,7 @@ use Rattle.nano_grammar.specs.FieldCodec.{field_text}
 use Rattle.nano_text.proofs.RollbackLaws.{unchanged_by}
 use Rattle.nano_json_schema.specs.FieldCodecs.{json_fields}
 use Rattle.nano_json_schema.proofs.WrittenFields.{more_fields}
-use Rattle.nano_json_nested.proofs.WrittenLaws.{written_between}
+use Rattle.nano_json_nested.proofs.WrittenLaws.{written_between$BESIDE}
 use Rattle.$LIBRARY.proofs.$STEMJsonCodecsLaws.{$CITED}
 $SPECSuse $GOALS.+write_$SNAKE_json.Goals as goal
 ";
@@ -79,18 +79,28 @@ use Rattle.{library}.specs.{stem}JsonCodecs.{{{}_json{contents}}}
 
 /// The names of what the answers cite of the laws of a type.
 fn cited_laws(alloc: Global, nested: &Nested<'_>) -> Result<String, AllocError> {
-    let snake = nested.names.snake.as_str();
-    let end = if nested.is_enum { "between" } else { "text" };
-    let mut names = format!(in alloc; "{snake}_json_{end}")?;
-    if has_long_row(nested) {
-        names.push_str(format!(in alloc; ", {snake}_json_none_so_far")?.as_str())?;
-    }
+    let mut names = if nested.is_enum {
+        String::new(alloc)
+    } else {
+        format!(in alloc; "{}_json_text", nested.names.snake)?
+    };
     for held in &nested.contents {
         if held.has_fields {
             names.push_str(cited_fields(alloc, nested, held)?.as_str())?;
         }
     }
-    Ok(names)
+    let cited = names.as_str();
+    String::from_str(alloc, cited.strip_prefix(", ").unwrap_or(cited))
+}
+
+/// The names of the laws of all types that the answers cite, after another one.
+fn beside(nested: &Nested<'_>) -> &'static str {
+    match (nested.is_enum, has_long_row(nested)) {
+        (true, true) => ", none_so_far, named_between",
+        (true, false) => ", named_between",
+        (false, true) => ", none_so_far",
+        (false, false) => "",
+    }
 }
 
 /// The names of the definitions of what each field is written as, each after a comma.
@@ -149,10 +159,9 @@ fn struct_answers(
     nested: &Nested<'_>,
     held: &Held<'_>,
 ) -> Result<String, AllocError> {
-    let (name, snake) = (nested.names.of.as_str(), nested.names.snake.as_str());
+    let name = nested.names.of.as_str();
     let function = format!(in alloc; "{name}WritesJson::write_json")?;
-    let append = format!(in alloc; "append_{snake}_json")?;
-    let rollback = rollback(alloc, function.as_str(), append.as_str())?;
+    let rollback = rollback(alloc, function.as_str(), "append_record")?;
     let (row, inside) = fields_proof(alloc, nested, held)?;
     let (opening, between) = (
         opening(alloc, &row)?,
@@ -160,15 +169,15 @@ fn struct_answers(
     );
     let mut holes = nested.holes(alloc);
     holes.put("ROLLBACK", rollback.as_str());
-    holes.put("APPEND", append.as_str());
     holes.put("OPENING", opening.as_str());
     holes.put("BETWEEN", between.as_str());
     holes.fill(STRUCT_ANSWERS)
 }
 
 const STRUCT_ANSWERS: &str = "$ROLLBACK
-pub $APPEND-returns-clause-ok : goal.$APPEND-returns-clause-ok
-$APPEND-returns-clause-ok t c =
+pub $NAMEJsonWriter::append_record-returns-clause-ok :
+    goal.$NAMEJsonWriter::append_record-returns-clause-ok
+$NAMEJsonWriter::append_record-returns-clause-ok t c =
     let x = c.args.value.now in
 $OPENING
     rw ($SNAKE_json_text c.args.d x)
@@ -181,10 +190,10 @@ fn variant_answers(
     nested: &Nested<'_>,
     held: &Held<'_>,
 ) -> Result<String, AllocError> {
-    let snake = nested.names.snake.as_str();
+    let name = nested.names.of.as_str();
     let end = Case::Snake.of_variant(alloc, held.name.as_str())?;
-    let append = format!(in alloc; "append_{snake}_{end}")?;
-    let function = format!(in alloc; "write_{snake}_{end}")?;
+    let append = format!(in alloc; "append_{end}")?;
+    let function = format!(in alloc; "{name}JsonWriter::write_{end}")?;
     let rollback = rollback(alloc, function.as_str(), append.as_str())?;
     let (row, inside) = fields_proof(alloc, nested, held)?;
     let (opening, between) = (
@@ -192,7 +201,7 @@ fn variant_answers(
         between(alloc, &row, inside.as_str())?,
     );
     let content = content_answer(alloc, nested, held, append.as_str())?;
-    let mut holes = Holes::new(alloc);
+    let mut holes = nested.holes(alloc);
     holes.put("ROLLBACK", rollback.as_str());
     holes.put("APPEND", append.as_str());
     holes.put("OPENING", opening.as_str());
@@ -202,8 +211,9 @@ fn variant_answers(
 }
 
 const VARIANT_ANSWERS: &str = "$ROLLBACK
-pub $APPEND_fields-returns-clause-ok : goal.$APPEND_fields-returns-clause-ok
-$APPEND_fields-returns-clause-ok t c =
+pub $NAMEJsonWriter::$APPEND_fields-returns-clause-ok :
+    goal.$NAMEJsonWriter::$APPEND_fields-returns-clause-ok
+$NAMEJsonWriter::$APPEND_fields-returns-clause-ok t c =
 $OPENING
     $BETWEEN
 $CONTENT";
@@ -227,10 +237,10 @@ fn content_answer(
 }
 
 const CONTENT_ANSWER: &str = "
-pub $APPEND-returns-clause-ok : goal.$APPEND-returns-clause-ok
-$APPEND-returns-clause-ok t c =
+pub $NAMEJsonWriter::$APPEND-returns-clause-ok : goal.$NAMEJsonWriter::$APPEND-returns-clause-ok
+$NAMEJsonWriter::$APPEND-returns-clause-ok t c =
     on_ok_weaker c.st_post.result
-    ($SNAKE_json_between (written_text (codes \"$KEY\"))
+    (named_between (written_text (codes \"$KEY\"))
     (($CONTENT.codec $SNAKE_json).canonical.text c.args.d $VALUES)
     (string_bytes c.args.s.now.out) (string_bytes c.st_pre.new.self.out)
     (string_bytes c.ser_json.new.s.out) (string_bytes c.push_str.new.self)

@@ -68,7 +68,7 @@ fn row_proof(
     })
 }
 
-const NONE_SO_FAR: &str = "$SNAKE_json_none_so_far $FIRST $SECOND $LAST $ONE_FIELDS $OTHER_FIELDS
+const NONE_SO_FAR: &str = "none_so_far $FIRST $SECOND $LAST $ONE_FIELDS $OTHER_FIELDS
     ($ONE_NEXT) ($OTHER_NEXT)";
 
 const MORE_FIELDS: &str = "more_fields (field_text json_fields inner) \

@@ -28,7 +28,6 @@ mod ron_cited;
 mod ron_contents;
 mod ron_rows;
 mod row;
-mod template;
 mod text_answers;
 mod text_cited;
 mod text_codec;

@@ -1,10 +1,7 @@
 //! What is said of an ordered map, from what is said of its keys and its values.
 
-use crate::nested::Nested;
 use crate::part::{Names, Part, plain_part};
-use crate::row::Leaf;
 use crate::wrapped::{at, atom, function, layered, steps};
-use derive_syntax::Holder;
 use std::alloc::{AllocError, Global};
 
 /// What is said of the keys of a map, as ghost terms.
@@ -99,7 +96,7 @@ pub(crate) fn mapped(
         means: mapped_means(alloc, &keys, part.means.as_str())?,
         depth: mapped_depth(alloc, &keys, part)?,
         is_cased: false,
-        means_same: mapped_same(alloc, names, &keys, part)?,
+        means_same: mapped_same(alloc, &keys, part)?,
         depth_same: steps(alloc, within, "list_depth _ _ _", items, &part.depth_same)?,
     })
 }
@@ -151,12 +148,7 @@ fn mapped_depth(alloc: Global, keys: &Keys, part: &Part) -> Result<String, Alloc
 }
 
 /// That a map means the same step by step, if its values are of the type itself.
-fn mapped_same(
-    alloc: Global,
-    names: &Names,
-    keys: &Keys,
-    part: &Part,
-) -> Result<Option<String>, AllocError> {
+fn mapped_same(alloc: Global, keys: &Keys, part: &Part) -> Result<Option<String>, AllocError> {
     if part.layer.is_none() {
         return Ok(None);
     }
@@ -170,8 +162,8 @@ fn mapped_same(
         None => String::from_str(alloc, "λ x. refl")?,
     };
     Ok(Some(format!(in alloc;
-        "{}_map_means {} {} {step} _ {means} ({each}) $.entries",
-        names.snake, keys.order.compare, keys.means
+        "map_means {} {} {step} _ {means} ({each}) $.entries",
+        keys.order.compare, keys.means
     )?))
 }
 
@@ -191,55 +183,3 @@ pub(crate) fn map_layer(alloc: Global, key: &str, layer: &str) -> Result<String,
         keys.codec
     )
 }
-
-/// Whether a type stands in itself within a map.
-pub(crate) fn has_maps(nested: &Nested<'_>) -> bool {
-    for held in &nested.contents {
-        if have_map(&held.leaves) {
-            return true;
-        }
-    }
-    false
-}
-
-/// Whether the type itself stands in one of these parts within a map.
-fn have_map(leaves: &[Leaf<'_>]) -> bool {
-    for leaf in leaves {
-        if leaf.nested.is_within() && has_map(&leaf.nested.holders) {
-            return true;
-        }
-    }
-    false
-}
-
-/// Whether one of these is a map.
-fn has_map(holders: &[Holder<'_>]) -> bool {
-    for holder in holders {
-        if matches!(*holder, Holder::BTreeMap(_)) {
-            return true;
-        }
-    }
-    false
-}
-
-/// The lemma that a map means the same step by step, if a type stands in itself within one.
-pub(crate) fn map_lemma(alloc: Global, nested: &Nested<'_>) -> Result<String, AllocError> {
-    if !has_maps(nested) {
-        return Ok(String::new(alloc));
-    }
-    let name = format!(in alloc; "{}_map_means", nested.names.snake)?;
-    at(alloc, MAP_MEANS, name.as_str())
-}
-
-const MAP_MEANS: &str = "
--- what a map means, step by step from what its values mean
-pub $ : {K A B : Type 0} (c : K → K → Ordering) (k : K → Meaning) (s : B → Meaning)
-    (g : K × A → K × B) (m : A → Meaning)
-    → ((e : K × A) → ◌≡◌ {A = K × Meaning} ((g e).0, s (g e).1) (e.0, m e.1))
-    → (es : List (K × A)) → ordered_map_means c k s (map g es) ≡ ordered_map_means c k m es
-$ c k s g m same es =
-    sym (ordered_map_means-values k s c (map g es))
-    ∙ (ap (ordered_map_means c k (λ x. x))
-    (map_steps (λ e. (e.0, s e.1)) g (λ e. (e.0, m e.1)) same es)
-    ∙ ordered_map_means-values k m c es)
-";

@@ -2,11 +2,10 @@
 
 use crate::part::Names;
 use crate::row::{Leaf, Row, row_of};
-use crate::template::Holes;
 use crate::wrapped::{at, atom, part_of};
 use derive_syntax::{
-    Case, Content, Definition, Fault, Field, Shape, Token, Type, Variant, field_name, nested_part,
-    variant_name,
+    Case, Content, Definition, Fault, Field, Holes, Shape, Token, Type, Variant, field_name,
+    nested_part, variant_name,
 };
 use std::alloc::{AllocError, Global};
 

@@ -39,15 +39,16 @@ pub(crate) const BIN: Said = Said {
     called: "bin",
 };
 
-/// The other types within a type, each once.
+/// The other types within a type of a module, each once.
 pub(crate) fn others_of<'a>(
     alloc: Global,
+    module: &str,
     source: &Source<'a>,
     nested: &Nested<'a>,
 ) -> Result<Vec<Other>, AllocError> {
     let mut others = Vec::new(alloc);
     for held in &nested.contents {
-        add_others(alloc, source, held, &mut others)?;
+        add_others(alloc, module, source, held, &mut others)?;
     }
     Ok(others)
 }
@@ -55,6 +56,7 @@ pub(crate) fn others_of<'a>(
 /// Adds the other types among some parts that are not there yet.
 fn add_others<'a>(
     alloc: Global,
+    module: &str,
     source: &Source<'a>,
     held: &Held<'a>,
     others: &mut Vec<Other>,
@@ -66,17 +68,27 @@ fn add_others<'a>(
         if has(others, name) {
             continue;
         }
-        let module = match source.module_of_type(alloc, name)? {
-            Some(module) => module,
-            None => String::new(alloc),
-        };
         others.push(Other {
             name: String::from_str(alloc, name)?,
             snake: Case::Snake.of_variant(alloc, name)?,
-            module,
+            module: module_of_other(alloc, module, source, name)?,
         })?;
     }
     Ok(())
+}
+
+/// The module of another type, by a line that brings it in, or the one of the file.
+fn module_of_other(
+    alloc: Global,
+    module: &str,
+    source: &Source<'_>,
+    name: &str,
+) -> Result<String, AllocError> {
+    if let Some(brought) = source.module_of_type(alloc, name)? {
+        return Ok(brought);
+    }
+    let (_library, path) = crate_of(module);
+    String::from_str(alloc, path)
 }
 
 /// Whether a type of this name is among some.

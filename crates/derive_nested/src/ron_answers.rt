@@ -5,9 +5,9 @@ use crate::answers::{Answers, HEAD, Place};
 use crate::codec_laws::law_end;
 use crate::nested::{Held, Nested};
 use crate::ron_rows::{Written, fields_proof, struct_proof};
-use crate::template::Holes;
 use crate::text_codec::RON;
 use crate::text_fields::field_name;
+use derive_syntax::Holes;
 use std::alloc::{AllocError, Global};
 
 /// The answers for what writes a type, where it is written by several calls.
@@ -26,7 +26,7 @@ pub(crate) fn ron_writer(
         let written = written_by(alloc, nested, (held, &names))?;
         cited.push_str(if cited.is_empty() { "" } else { ", " })?;
         cited.push_str(written.cited.as_str())?;
-        answers.push_str(answered(alloc, &names, &written)?.as_str())?;
+        answers.push_str(answered(alloc, nested, &names, &written)?.as_str())?;
     }
     if answers.is_empty() {
         return Ok(None);
@@ -63,7 +63,7 @@ $ANSWERS";
 /// The names of what writes a struct, or a variant.
 #[derive(Drop)]
 pub(crate) struct WriterNames {
-    /// What appends it.
+    /// What appends it, in the writer of the type.
     pub(crate) append: String,
     /// What leaves the text unchanged where that fails.
     pub(crate) write: String,
@@ -77,22 +77,22 @@ fn names_of(
     nested: &Nested<'_>,
     held: &Held<'_>,
 ) -> Result<WriterNames, AllocError> {
-    let (name, snake) = (nested.names.of.as_str(), nested.names.snake.as_str());
+    let name = nested.names.of.as_str();
     let mut fields = Vec::new(alloc);
     for called in &held.called {
         fields.push(field_name(alloc, nested, &RON, (held, called.as_str()))?)?;
     }
     if !nested.is_enum {
         return Ok(WriterNames {
-            append: format!(in alloc; "append_{snake}_ron")?,
+            append: String::from_str(alloc, "append_record")?,
             write: format!(in alloc; "{name}WritesRon::write_ron")?,
             fields,
         });
     }
     let end = law_end(alloc, held)?;
     Ok(WriterNames {
-        append: format!(in alloc; "append_{snake}_{end}_ron")?,
-        write: format!(in alloc; "write_{snake}_{end}_ron")?,
+        append: format!(in alloc; "append_{end}")?,
+        write: format!(in alloc; "{name}RonWriter::write_{end}")?,
         fields,
     })
 }
@@ -110,10 +110,15 @@ fn written_by(
 }
 
 /// The answers for what writes it.
-fn answered(alloc: Global, names: &WriterNames, written: &Written) -> Result<String, AllocError> {
+fn answered(
+    alloc: Global,
+    nested: &Nested<'_>,
+    names: &WriterNames,
+    written: &Written,
+) -> Result<String, AllocError> {
     let WriterNames { append, write, .. } = names;
     let proof = written.proof.as_str();
-    let mut holes = Holes::new(alloc);
+    let mut holes = nested.holes(alloc);
     holes.put("WRITE", write.as_str());
     holes.put("APPEND", append.as_str());
     holes.put("PROOF", proof);
@@ -128,6 +133,6 @@ $WRITE-rollback_on_error-requires t c =
     c.len-start.result _ c.len-start.ensures c.$APPEND-written.ensures.ok
     c.$APPEND-written.ensures.err
 
-pub $APPEND-returns-clause-ok : goal.$APPEND-returns-clause-ok
-$APPEND-returns-clause-ok t c =
+pub $NAMERonWriter::$APPEND-returns-clause-ok : goal.$NAMERonWriter::$APPEND-returns-clause-ok
+$NAMERonWriter::$APPEND-returns-clause-ok t c =
 $PROOF";

@@ -3,8 +3,7 @@
 
 use crate::nested::{Held, Nested};
 use crate::ron_answers::WriterNames;
-use crate::template::Holes;
-use derive_syntax::Holder;
+use derive_syntax::{Holder, Holes};
 use std::alloc::{AllocError, Global};
 
 /// What is proved of what appends something.

@@ -3,8 +3,8 @@
 
 use crate::answers::{Answers, HEAD, Place};
 use crate::nested::Nested;
-use crate::template::Holes;
 use crate::text_codec::TextTerms;
+use derive_syntax::Holes;
 use std::alloc::{AllocError, Global};
 
 /// The answers for the reader of a type in a format of texts.

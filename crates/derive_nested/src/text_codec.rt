@@ -6,9 +6,9 @@ use crate::definitions::equation;
 use crate::nested::{Held, Nested};
 use crate::others::Said;
 use crate::ron_contents::variant_texts;
-use crate::template::Holes;
 use crate::text_layers::{content_layer, content_layers, row_layer};
 use crate::wrapped::atom;
+use derive_syntax::Holes;
 use std::alloc::{AllocError, Global};
 
 /// A format of texts, as ghost terms.
@@ -104,12 +104,9 @@ pub(crate) fn text_codec(
 ) -> Result<String, AllocError> {
     let mut text = layer(alloc, nested, format)?;
     text.push_str(nested_record(alloc, nested, format.coded)?.as_str())?;
-    text.push_str(codec(alloc, nested, format)?.as_str())?;
+    text.push_str(codec(alloc, nested, format, before)?.as_str())?;
     if format.name == RON.name {
         text.push_str(variant_texts(alloc, nested, format)?.as_str())?;
-    }
-    if let Some(before) = before {
-        text.push_str(agreement(alloc, nested, format, before)?.as_str())?;
     }
     Ok(text)
 }
@@ -192,27 +189,16 @@ fn variant(
 }
 
 /// The codec of the values of so many levels, and that of the values that are read.
-fn codec(alloc: Global, nested: &Nested<'_>, format: &TextTerms) -> Result<String, AllocError> {
-    format.holes(alloc, nested).fill(CODEC)
-}
-
-const CODEC: &str = "
--- those of at most so many levels
-abbrev pub $SNAKE_$INFIXat : ℕ → Codec $NAME
-$SNAKE_$INFIXat = level $SNAKE_$INFIXnested
-
--- those that are read
-abbrev pub $SNAKE_$SUFFIX : Codec $NAME
-$SNAKE_$SUFFIX = limited $SNAKE_$INFIXnested $LIMIT
-";
-
-/// That the format calls legal what the one before it does.
-fn agreement(
+fn codec(
     alloc: Global,
     nested: &Nested<'_>,
     format: &TextTerms,
-    before: &str,
+    before: Option<&str>,
 ) -> Result<String, AllocError> {
+    let mut holes = format.holes(alloc, nested);
+    let Some(before) = before else {
+        return holes.fill(ALONE);
+    };
     let (snake, limit) = (nested.names.snake.as_str(), nested.limit);
     let (codec, agrees) = if before == "bin" {
         (
@@ -227,15 +213,35 @@ fn agreement(
             )?,
         )
     };
-    let mut holes = format.holes(alloc, nested);
     holes.put("CODEC", codec.as_str());
     holes.put("AGREES", agrees.as_str());
-    holes.fill(AGREEMENT)
+    holes.fill(LATER)
 }
 
-const AGREEMENT: &str = "
-pub $SNAKE_$INFIXagrees : Agrees $SNAKE_means $CODEC.encoding.legal $SNAKE_means $SNAKE_$SUFFIX.encoding.legal
+/// The codecs of a format that alone says what is legal, or does so before others.
+const ALONE: &str = "
+-- those of at most so many levels
+abbrev pub $SNAKE_$INFIXat : ℕ → Codec $NAME
+$SNAKE_$INFIXat = level $SNAKE_$INFIXnested
+
+-- those that are read
+abbrev pub $SNAKE_$SUFFIX : Codec $NAME
+$SNAKE_$SUFFIX = limited $SNAKE_$INFIXnested $LIMIT
+";
+
+/// The codecs of a format that calls legal what the one before it does.
+const LATER: &str = "
+-- those of at most so many levels
+abbrev pub $SNAKE_$INFIXat : ℕ → Codec $NAME
+$SNAKE_$INFIXat = level $SNAKE_$INFIXnested
+
+pub $SNAKE_$INFIXagrees : Agrees $SNAKE_means $CODEC.encoding.legal $SNAKE_means
+    (limited $SNAKE_$INFIXnested $LIMIT).encoding.legal
 $SNAKE_$INFIXagrees =
     agree_through ($AGREES)
     (nested_agrees $SNAKE_$INFIXnested $SNAKE_step (λ f. refl) $LIMIT)
+
+-- those that are read, and what is legal in the words of the format before
+abbrev pub $SNAKE_$SUFFIX : Codec $NAME
+$SNAKE_$SUFFIX = legal_as (limited $SNAKE_$INFIXnested $LIMIT) $SNAKE_$INFIXagrees
 ";

@@ -52,25 +52,6 @@ pub(crate) fn field_name(
     format!(in alloc; "{snake}_{infix}field_{called}")
 }
 
-/// The lemmas that the proofs of how fields are written take.
-pub(crate) fn row_lemmas(
-    alloc: Global,
-    nested: &Nested<'_>,
-    format: &TextTerms,
-) -> Result<String, AllocError> {
-    let (snake, infix) = (nested.names.snake.as_str(), format.coded.infix);
-    let mut text = String::new(alloc);
-    if has_long_row(nested) {
-        let lemma = format!(in alloc; "{snake}_{infix}none_so_far")?;
-        text.push_str(at(alloc, NONE_SO_FAR, lemma.as_str())?.as_str())?;
-    }
-    if has_contents(nested) {
-        let lemma = format!(in alloc; "{snake}_{infix}between")?;
-        text.push_str(at(alloc, BETWEEN, lemma.as_str())?.as_str())?;
-    }
-    Ok(text)
-}
-
 /// Whether a struct or a variant has so many named fields that the first half are several.
 pub(crate) fn has_long_row(nested: &Nested<'_>) -> bool {
     for held in &nested.contents {
@@ -90,42 +71,3 @@ pub(crate) fn has_contents(nested: &Nested<'_>) -> bool {
     }
     false
 }
-
-const NONE_SO_FAR: &str = "
--- whether none comes before what follows fields and more fields
-pub $ : {A : Type 0} (first second third : Bool) (xs ys : List A)
-    → second ≡ none_yet first xs → third ≡ none_yet second ys → third ≡ none_yet first (xs ++ ys)
-$ first second third [] ys e k = k ∙ ap (λ b. none_yet b ys) e
-$ first second third (x ∷ xs) [] e k = k ∙ e
-$ first second third (x ∷ xs) (y ∷ ys) e k = k
-";
-
-const BETWEEN: &str = "
--- a name, a colon and content between braces
-pub $ : (name body before opened named colon inside after : List ℕ)
-    → opened ≡ before ++ 123 ∷ [] → named ≡ opened ++ encode_utf8_all name
-    → colon ≡ named ++ 58 ∷ [] → inside ≡ colon ++ encode_utf8_all body
-    → after ≡ inside ++ 125 ∷ []
-    → after ≡ before ++ encode_utf8_all (123 ∷ (name ++ 58 ∷ (body ++ 125 ∷ [])))
-$ name body before opened named colon inside after e h k m n =
-    let words = encode_utf8_all name in
-    let content = encode_utf8_all body in
-    let start = before ++ 123 ∷ [] in
-    let closed : encode_utf8_all (body ++ 125 ∷ []) ≡ content ++ 125 ∷ [] =
-    encodes-append body (125 ∷ []) ∙ (λ j. content ++ (encode_ascii 125 (lit< tt) j ++ [])) in
-    let rest : encode_utf8_all (name ++ 58 ∷ (body ++ 125 ∷ []))
-    ≡ words ++ 58 ∷ (content ++ 125 ∷ []) =
-    encodes-append name (58 ∷ (body ++ 125 ∷ []))
-    ∙ (λ j. words ++ (encode_ascii 58 (lit< tt) j ++ closed j)) in
-    let inner : encode_utf8_all (123 ∷ (name ++ 58 ∷ (body ++ 125 ∷ [])))
-    ≡ 123 ∷ (words ++ 58 ∷ (content ++ 125 ∷ [])) =
-    λ i. encode_ascii 123 (lit< tt) i ++ rest i in
-    n
-    ∙ (ap (λ l. l ++ 125 ∷ []) (m ∙ ap (λ l. l ++ content)
-    (k ∙ ap (λ l. l ++ 58 ∷ []) (h ∙ ap (λ l. l ++ words) e)))
-    ∙ (append_assoc ((start ++ words) ++ 58 ∷ []) content (125 ∷ [])
-    ∙ (append_assoc (start ++ words) (58 ∷ []) (content ++ 125 ∷ [])
-    ∙ (append_assoc start words (58 ∷ (content ++ 125 ∷ []))
-    ∙ (append_assoc before (123 ∷ []) (words ++ 58 ∷ (content ++ 125 ∷ []))
-    ∙ ap (λ l. before ++ l) (sym inner))))))
-";

@@ -4,8 +4,8 @@
 use crate::codec_laws::{Variant, binders, law_end, variant_at};
 use crate::legal_laws::{Known, struct_legal, variant_legal};
 use crate::nested::{Held, Nested};
-use crate::text_codec::{JSON, TextTerms};
-use crate::text_fields::{field_definitions, row_lemmas};
+use crate::text_codec::TextTerms;
+use crate::text_fields::field_definitions;
 use crate::text_layers::content_name;
 use crate::wrapped::{at, atom};
 use std::alloc::{AllocError, Global};
@@ -34,9 +34,6 @@ pub(crate) fn text_laws(
     }
     if nested.is_enum {
         text.push_str(texts(alloc, nested, format)?.as_str())?;
-    }
-    if format.name == JSON.name {
-        text.push_str(row_lemmas(alloc, nested, format)?.as_str())?;
     }
     Ok(text)
 }

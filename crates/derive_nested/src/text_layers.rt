@@ -4,10 +4,9 @@ use crate::codec_laws::law_end;
 use crate::maps::map_layer;
 use crate::nested::{Held, Nested};
 use crate::row::Leaf;
-use crate::template::Holes;
 use crate::text_codec::TextTerms;
 use crate::wrapped::{at, atom};
-use derive_syntax::Holder;
+use derive_syntax::{Holder, Holes};
 use std::alloc::{AllocError, Global};
 
 /// The layer of what a variant holds, or nothing where its name stands alone. That of named fields

@@ -17,6 +17,7 @@ mod place;
 mod scan;
 mod state;
 mod syntax;
+mod template;
 mod token;
 mod used;
 
@@ -33,4 +34,5 @@ pub use scan::tokens_of;
 pub use syntax::{
     Attributes, Bound, Content, Definition, Directions, Field, Shape, Source, Type, Variant,
 };
+pub use template::Holes;
 pub use token::{Token, TokenKind};

@@ -60,3 +60,27 @@ agree_through first second = record {
   allows = λ m h. second.allows m (first.is_legal m h);
   is_legal = λ m h. first.allows m (second.is_legal m h);
 }
+
+-- a codec, of which what is legal is said in other words: so formats of one type call the same legal
+-- by computing, and those of a type around it do
+abbrev pub legal_as : {T : Type 0} {c : Cutting T} {g : Grammar T} {A : Type 0} {means : A → Meaning}
+    {legal : Meaning → Type 0} (f : Codec c g A)
+    → Agrees means legal f.canonical.means f.encoding.legal → Codec c g A
+legal_as {legal = legal} f agrees = record {
+  canonical = f.canonical;
+  encoding = record {
+    legal = legal;
+    encodes = f.encoding.encodes;
+    laws = record {
+      is_legal = λ ts x h. agrees.is_legal x (f.encoding.laws.is_legal ts x h);
+      one_value = f.encoding.laws.one_value;
+      none_begins = f.encoding.laws.none_begins;
+      begins = f.encoding.laws.begins;
+    };
+  };
+  is_written = λ x h d. f.is_written x (agrees.allows (f.canonical.means x) h) d;
+  sound = f.sound;
+  reads_back = λ x h s. f.reads_back x (agrees.allows (f.canonical.means x) h) s;
+  encoded_is_sound = f.encoded_is_sound;
+  null_alone = f.null_alone;
+}

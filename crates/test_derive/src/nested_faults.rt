@@ -110,15 +110,29 @@ enum A {
 }
 => 3:16: `[` stands in a type that contains itself
 ----
-// nanoserde: bin
-struct B;
+use super::*;
 
 // nanoserde: bin
 struct A {
     a: Vec<A>,
     b: B,
 }
-=> 7:8: `B` is another user-defined type in one that contains itself
+=> 6:8: `B` is another user-defined type in one that contains itself
+----
+// nanoserde: bin
+struct A {
+    a: Vec<A>,
+    b: Option<C>,
+}
+
+// nanoserde: bin
+struct B {
+    b: Vec<B>,
+}
+
+// nanoserde: bin
+struct C(B, u8);
+=> 4:15: `C` contains itself, or has a part that does
 ----
 use crate::B;
 

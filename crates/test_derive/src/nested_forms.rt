@@ -96,25 +96,28 @@ enum A {
         let levels = Levels::most();
         ReadsJson::<Self>::read_json(levels, 64, alloc, state, input)
 =>
-ghost use Rattle.app.specs.declared.shapes.A.{B as A-B};
+impl AJsonWriter {
+    ghost use Rattle.app.specs.declared.shapes.A.{B as A-B};
 =>
-fn append_a_b_fields(
-    value: &A,
-    v0: &Box<A>,
-    v1: &Box<A>,
-    alloc: Global,
-    d: usize,
-    s: &mut SerJsonState,
-) -> Result<(), AllocError>
-    requires { value.now ≡ A-B v0.now v1.now }
+    fn append_b_fields(
+        value: &A,
+        v0: &Box<A>,
+        v1: &Box<A>,
+        alloc: Global,
+        d: usize,
+        s: &mut SerJsonState,
+    ) -> Result<(), AllocError>
+        requires { value.now ≡ A-B v0.now v1.now }
 =>
-    let right_is_first = append_required_within(alloc, "l", v0, true, inner, s)?;
-    append_required_within(alloc, "right", v1, right_is_first, inner, s)?;
+        let right_is_first = append_required_within(alloc, "l", v0, true, inner, s)?;
+        append_required_within(alloc, "right", v1, right_is_first, inner, s)?;
 =>
             Self::B {
                 left: v0,
                 right: v1,
-            } => write_a_b(self, v0, v1, alloc, d, s),
+            } => AJsonWriter::write_b(self, v0, v1, alloc, d, s),
+=>
+            } => ARonWriter::write_b(self, v0, v1, alloc, d, s),
 ----
 // nanoserde: ron
 enum A {
@@ -204,7 +207,26 @@ a_means_step (A-F.B v) = tagged 0 (ordered_map_means int_cmp number (λ x. liste
 =>
     greatest (map (λ (x : ℤ × Vec ℕ Global). greatest (map (λ x. suc x) x.1.items)) v.entries)
 =>
-pub a_map_means : {K A B : Type 0} (c : K → K → Ordering) (k : K → Meaning) (s : B → Meaning)
+use Rattle.nano_schema_levels.proofs.StepsLaws.{by_option, list_depth, map_means, pair_depth, pair_means}
 =>
-use Rattle.app.specs.ShapesCodecs.{a_depth, a_depth_step, a_map_means}
+use Rattle.app.specs.ShapesCodecs.{a_depth, a_depth_step}
+----
+// nanoserde: bin json
+struct B(u8);
+
+// nanoserde: bin json
+struct A {
+    a: Vec<A>,
+    b: Option<B>,
+}
+=>
+use Rattle.app.specs.contracts.shapes.derived.BBinCodec.TheImpl.{ghosts as b_bin}
+=>
+pub a_json_agrees : Agrees a_means a_codec.encoding.legal a_means
+    (limited a_json_nested 128).encoding.legal
+=>
+a_json = legal_as (limited a_json_nested 128) a_json_agrees
+=>
+pub AJsonWriter::append_record-returns-clause-ok :
+    goal.AJsonWriter::append_record-returns-clause-ok
 "#;

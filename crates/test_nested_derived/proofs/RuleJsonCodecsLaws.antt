@@ -1,8 +1,6 @@
 -- Written by derive_files: what is proved of types that contain themselves.
-use Rattle.std.specs.Prelude.{◌≡◌, ◌++◌, ◌∷◌, [], ℕ, List, codes, encode_utf8_all, Box, Option}
+use Rattle.std.specs.Prelude.{◌≡◌, ℕ, List, codes, Box, Option}
 use Rattle.std.specs.Global.{Global}
-use Rattle.std.proofs.Common.{◌∙◌, ap, append_assoc, lit<, sym}
-use Rattle.std.proofs.lemmas.Str.{encode_ascii, encodes-append}
 use Rattle.nano_schema.specs.declared.choices.Either.TheVariants.{First, Later}
 use Rattle.nano_grammar.specs.FieldCodec.{WrittenField}
 use Rattle.nano_schema_levels.proofs.NestedLaws.{text_seen}
@@ -56,31 +54,3 @@ rule_json_text_when d v0 v1 v2 =
     text_seen rule_json_nested 5 d (Rule-When v0 v1 v2) (Later (Later (v0, (v1, v2)))) (rule_view_when v0 v1 v2)
 
 pub ruleset rule_json_texts = (rule_json_text_always, rule_json_text_from, rule_json_text_when)
-
--- a name, a colon and content between braces
-pub rule_json_between : (name body before opened named colon inside after : List ℕ)
-    → opened ≡ before ++ 123 ∷ [] → named ≡ opened ++ encode_utf8_all name
-    → colon ≡ named ++ 58 ∷ [] → inside ≡ colon ++ encode_utf8_all body
-    → after ≡ inside ++ 125 ∷ []
-    → after ≡ before ++ encode_utf8_all (123 ∷ (name ++ 58 ∷ (body ++ 125 ∷ [])))
-rule_json_between name body before opened named colon inside after e h k m n =
-    let words = encode_utf8_all name in
-    let content = encode_utf8_all body in
-    let start = before ++ 123 ∷ [] in
-    let closed : encode_utf8_all (body ++ 125 ∷ []) ≡ content ++ 125 ∷ [] =
-    encodes-append body (125 ∷ []) ∙ (λ j. content ++ (encode_ascii 125 (lit< tt) j ++ [])) in
-    let rest : encode_utf8_all (name ++ 58 ∷ (body ++ 125 ∷ []))
-    ≡ words ++ 58 ∷ (content ++ 125 ∷ []) =
-    encodes-append name (58 ∷ (body ++ 125 ∷ []))
-    ∙ (λ j. words ++ (encode_ascii 58 (lit< tt) j ++ closed j)) in
-    let inner : encode_utf8_all (123 ∷ (name ++ 58 ∷ (body ++ 125 ∷ [])))
-    ≡ 123 ∷ (words ++ 58 ∷ (content ++ 125 ∷ [])) =
-    λ i. encode_ascii 123 (lit< tt) i ++ rest i in
-    n
-    ∙ (ap (λ l. l ++ 125 ∷ []) (m ∙ ap (λ l. l ++ content)
-    (k ∙ ap (λ l. l ++ 58 ∷ []) (h ∙ ap (λ l. l ++ words) e)))
-    ∙ (append_assoc ((start ++ words) ++ 58 ∷ []) content (125 ∷ [])
-    ∙ (append_assoc (start ++ words) (58 ∷ []) (content ++ 125 ∷ [])
-    ∙ (append_assoc start words (58 ∷ (content ++ 125 ∷ []))
-    ∙ (append_assoc before (123 ∷ []) (words ++ 58 ∷ (content ++ 125 ∷ []))
-    ∙ ap (λ l. before ++ l) (sym inner))))))

@@ -1,14 +1,14 @@
 -- Written by derive_files: types that contain themselves, and their codecs.
-use Rattle.std.specs.Prelude.{◌≡◌, ℕ, max, refl, codes}
-use Rattle.std.proofs.Common.{◌∙◌, arith}
+use Rattle.std.specs.Prelude.{◌≡◌, ℕ, refl, codes}
+use Rattle.std.proofs.Common.{◌∙◌}
 use Rattle.nano_value.specs.Meaning.{Meaning, Agrees, number}
-use Rattle.nano_schema_levels.proofs.StepsLaws.{by_option}
+use Rattle.nano_schema_levels.proofs.StepsLaws.{by_option, later_depth}
 use Rattle.nano_levels.specs.Layers.{Layer, Nested}
 use Rattle.nano_levels.proofs.LayersLaws.{itself_layer}
 use Rattle.nano_levels.proofs.LevelsLaws.{level, limited}
 use Rattle.nano_schema_levels.specs.FieldLayers.{FieldsLayer}
 use Rattle.nano_schema_levels.proofs.FieldLayersLaws.{fields_pair_layer, optional_layer, other_fields, struct_layer}
-use Rattle.nano_schema_levels.proofs.LegalLevelsLaws.{agree_through, nested_agrees}
+use Rattle.nano_schema_levels.proofs.LegalLevelsLaws.{agree_through, legal_as, nested_agrees}
 use Rattle.nano_schema_levels.proofs.PartLaws.{seen_layer}
 use Rattle.nano_bin_nested.proofs.LegalLaws.{nested_agrees as bin_agrees}
 use Rattle.nano_ron.specs.Codec.{Codec}
@@ -33,10 +33,6 @@ chain_ron_fields =
 abbrev pub chain_ron_layer : Layer ron ron_grammar Chain (ChainContent Chain)
 chain_ron_layer = struct_layer chain_ron_fields (λ f. word_names refl) (λ f. refl)
 
--- what holds no values of the type before what does
-pub chain_ron_later_depth : {a b : ℕ} → a ≡ b → a ≡ max 0 b
-chain_ron_later_depth e = omega (arith, e)
-
 pub chain_ron_means_opened : (y : Chain-F Chain)
     → chain_means_step (map-Chain Chain Meaning chain_means y)
     ≡ chain_ron_layer.means chain_means (chain_opened y)
@@ -52,7 +48,7 @@ pub chain_ron_depth_opened : (y : Chain-F Chain)
 chain_ron_depth_opened y =
     by_option (λ o. chain_depth_step (map-Chain Chain ℕ chain_depth (record { number = y.number; next = o }))
     ≡ chain_ron_layer.deep chain_depth (chain_opened {X = Chain} (record { number = y.number; next = o })))
-    refl (λ x1. chain_ron_later_depth refl)
+    refl (λ x1. later_depth refl)
     y.next
 
 abbrev pub chain_ron_nested : Nested ron ron_grammar Chain
@@ -70,11 +66,12 @@ chain_ron_nested = record {
 abbrev pub chain_ron_at : ℕ → Codec Chain
 chain_ron_at = level chain_ron_nested
 
--- those that are read
-abbrev pub chain_ron : Codec Chain
-chain_ron = limited chain_ron_nested 128
-
-pub chain_ron_agrees : Agrees chain_means chain_codec.encoding.legal chain_means chain_ron.encoding.legal
+pub chain_ron_agrees : Agrees chain_means chain_codec.encoding.legal chain_means
+    (limited chain_ron_nested 128).encoding.legal
 chain_ron_agrees =
     agree_through (bin_agrees chain_nested chain_step (λ f. refl))
     (nested_agrees chain_ron_nested chain_step (λ f. refl) 128)
+
+-- those that are read, and what is legal in the words of the format before
+abbrev pub chain_ron : Codec Chain
+chain_ron = legal_as (limited chain_ron_nested 128) chain_ron_agrees

@@ -6,7 +6,7 @@ use Rattle.nano_levels.specs.Layers.{Layer, Nested}
 use Rattle.nano_levels.proofs.LayersLaws.{itself_layer, other_layer}
 use Rattle.nano_levels.proofs.LevelsLaws.{level, limited}
 use Rattle.nano_schema_levels.specs.VariantLayers.{VariantsLayer}
-use Rattle.nano_schema_levels.proofs.LegalLevelsLaws.{agree_through, nested_agrees}
+use Rattle.nano_schema_levels.proofs.LegalLevelsLaws.{agree_through, legal_as, nested_agrees}
 use Rattle.nano_schema_levels.proofs.PartLaws.{pair_layer, seen_layer, single_layer}
 use Rattle.nano_schema_levels.proofs.VariantLayersLaws.{choice_layer, last_variant, next_variant}
 use Rattle.nano_bin_nested.proofs.LegalLaws.{nested_agrees as bin_agrees}
@@ -63,11 +63,12 @@ expression_json_nested = record {
 abbrev pub expression_json_at : ℕ → Codec Expression
 expression_json_at = level expression_json_nested
 
--- those that are read
-abbrev pub expression_json : Codec Expression
-expression_json = limited expression_json_nested 128
-
-pub expression_json_agrees : Agrees expression_means expression_codec.encoding.legal expression_means expression_json.encoding.legal
+pub expression_json_agrees : Agrees expression_means expression_codec.encoding.legal expression_means
+    (limited expression_json_nested 128).encoding.legal
 expression_json_agrees =
     agree_through (bin_agrees expression_nested expression_step (λ f. refl))
     (nested_agrees expression_json_nested expression_step (λ f. refl) 128)
+
+-- those that are read, and what is legal in the words of the format before
+abbrev pub expression_json : Codec Expression
+expression_json = legal_as (limited expression_json_nested 128) expression_json_agrees

@@ -6,7 +6,7 @@ use Rattle.nano_levels.specs.Layers.{Layer, Nested}
 use Rattle.nano_levels.proofs.LayersLaws.{itself_layer, other_layer}
 use Rattle.nano_levels.proofs.LevelsLaws.{level, limited}
 use Rattle.nano_schema_levels.specs.VariantLayers.{VariantsLayer}
-use Rattle.nano_schema_levels.proofs.LegalLevelsLaws.{agree_through, nested_agrees}
+use Rattle.nano_schema_levels.proofs.LegalLevelsLaws.{agree_through, legal_as, nested_agrees}
 use Rattle.nano_schema_levels.proofs.PartLaws.{pair_layer, seen_layer, single_layer}
 use Rattle.nano_schema_levels.proofs.VariantLayersLaws.{choice_layer, last_variant, next_variant}
 use Rattle.nano_bin_nested.proofs.LegalLaws.{nested_agrees as bin_agrees}
@@ -64,11 +64,12 @@ expression_ron_nested = record {
 abbrev pub expression_ron_at : ℕ → Codec Expression
 expression_ron_at = level expression_ron_nested
 
--- those that are read
-abbrev pub expression_ron : Codec Expression
-expression_ron = limited expression_ron_nested 128
-
-pub expression_ron_agrees : Agrees expression_means expression_codec.encoding.legal expression_means expression_ron.encoding.legal
+pub expression_ron_agrees : Agrees expression_means expression_codec.encoding.legal expression_means
+    (limited expression_ron_nested 128).encoding.legal
 expression_ron_agrees =
     agree_through (bin_agrees expression_nested expression_step (λ f. refl))
     (nested_agrees expression_ron_nested expression_step (λ f. refl) 128)
+
+-- those that are read, and what is legal in the words of the format before
+abbrev pub expression_ron : Codec Expression
+expression_ron = legal_as (limited expression_ron_nested 128) expression_ron_agrees

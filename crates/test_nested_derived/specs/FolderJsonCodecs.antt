@@ -1,14 +1,14 @@
 -- Written by derive_files: types that contain themselves, and their codecs.
-use Rattle.std.specs.Prelude.{◌≡◌, ℕ, max, refl, codes}
-use Rattle.std.proofs.Common.{◌∙◌, arith}
+use Rattle.std.specs.Prelude.{◌≡◌, ℕ, refl, codes}
+use Rattle.std.proofs.Common.{◌∙◌}
 use Rattle.nano_value.specs.Meaning.{Meaning, Agrees}
-use Rattle.nano_schema_levels.proofs.StepsLaws.{list_depth}
+use Rattle.nano_schema_levels.proofs.StepsLaws.{later_depth, list_depth}
 use Rattle.nano_levels.specs.Layers.{Layer, Nested}
 use Rattle.nano_levels.proofs.LayersLaws.{itself_layer, list_layer}
 use Rattle.nano_levels.proofs.LevelsLaws.{level, limited}
 use Rattle.nano_schema_levels.specs.FieldLayers.{FieldsLayer}
 use Rattle.nano_schema_levels.proofs.FieldLayersLaws.{fields_pair_layer, other_fields, required_layer, struct_layer}
-use Rattle.nano_schema_levels.proofs.LegalLevelsLaws.{agree_through, nested_agrees}
+use Rattle.nano_schema_levels.proofs.LegalLevelsLaws.{agree_through, legal_as, nested_agrees}
 use Rattle.nano_schema_levels.proofs.PartLaws.{seen_layer}
 use Rattle.nano_bin_nested.proofs.LegalLaws.{nested_agrees as bin_agrees}
 use Rattle.nano_json.specs.Codec.{Codec}
@@ -32,10 +32,6 @@ folder_json_fields =
 abbrev pub folder_json_layer : Layer json json_grammar Folder (FolderContent Folder)
 folder_json_layer = struct_layer folder_json_fields (λ f. ascii_names refl) (λ f. refl)
 
--- what holds no values of the type before what does
-pub folder_json_later_depth : {a b : ℕ} → a ≡ b → a ≡ max 0 b
-folder_json_later_depth e = omega (arith, e)
-
 pub folder_json_means_opened : (y : Folder-F Folder)
     → folder_means_step (map-Folder Folder Meaning folder_means y)
     ≡ folder_json_layer.means folder_means (folder_opened y)
@@ -44,7 +40,7 @@ folder_json_means_opened y = refl
 pub folder_json_depth_opened : (y : Folder-F Folder)
     → folder_depth_step (map-Folder Folder ℕ folder_depth y)
     ≡ folder_json_layer.deep folder_depth (folder_opened y)
-folder_json_depth_opened y = folder_json_later_depth (list_depth _ _ _ (λ x. refl) y.folders.items)
+folder_json_depth_opened y = later_depth (list_depth _ _ _ (λ x. refl) y.folders.items)
 
 abbrev pub folder_json_nested : Nested json json_grammar Folder
 folder_json_nested = record {
@@ -61,11 +57,12 @@ folder_json_nested = record {
 abbrev pub folder_json_at : ℕ → Codec Folder
 folder_json_at = level folder_json_nested
 
--- those that are read
-abbrev pub folder_json : Codec Folder
-folder_json = limited folder_json_nested 128
-
-pub folder_json_agrees : Agrees folder_means folder_codec.encoding.legal folder_means folder_json.encoding.legal
+pub folder_json_agrees : Agrees folder_means folder_codec.encoding.legal folder_means
+    (limited folder_json_nested 128).encoding.legal
 folder_json_agrees =
     agree_through (bin_agrees folder_nested folder_step (λ f. refl))
     (nested_agrees folder_json_nested folder_step (λ f. refl) 128)
+
+-- those that are read, and what is legal in the words of the format before
+abbrev pub folder_json : Codec Folder
+folder_json = legal_as (limited folder_json_nested 128) folder_json_agrees

@@ -1,14 +1,14 @@
 -- Written by derive_files: types that contain themselves, and their codecs.
-use Rattle.std.specs.Prelude.{◌≡◌, ℕ, max, refl, codes}
-use Rattle.std.proofs.Common.{◌∙◌, arith}
+use Rattle.std.specs.Prelude.{◌≡◌, ℕ, refl, codes}
+use Rattle.std.proofs.Common.{◌∙◌}
 use Rattle.nano_value.specs.Meaning.{Meaning, Agrees}
-use Rattle.nano_schema_levels.proofs.StepsLaws.{list_depth}
+use Rattle.nano_schema_levels.proofs.StepsLaws.{later_depth, list_depth}
 use Rattle.nano_levels.specs.Layers.{Layer, Nested}
 use Rattle.nano_levels.proofs.LayersLaws.{itself_layer, list_layer}
 use Rattle.nano_levels.proofs.LevelsLaws.{level, limited}
 use Rattle.nano_schema_levels.specs.FieldLayers.{FieldsLayer}
 use Rattle.nano_schema_levels.proofs.FieldLayersLaws.{fields_pair_layer, other_fields, required_layer, struct_layer}
-use Rattle.nano_schema_levels.proofs.LegalLevelsLaws.{agree_through, nested_agrees}
+use Rattle.nano_schema_levels.proofs.LegalLevelsLaws.{agree_through, legal_as, nested_agrees}
 use Rattle.nano_schema_levels.proofs.PartLaws.{seen_layer}
 use Rattle.nano_bin_nested.proofs.LegalLaws.{nested_agrees as bin_agrees}
 use Rattle.nano_ron.specs.Codec.{Codec}
@@ -34,10 +34,6 @@ folder_ron_fields =
 abbrev pub folder_ron_layer : Layer ron ron_grammar Folder (FolderContent Folder)
 folder_ron_layer = struct_layer folder_ron_fields (λ f. word_names refl) (λ f. refl)
 
--- what holds no values of the type before what does
-pub folder_ron_later_depth : {a b : ℕ} → a ≡ b → a ≡ max 0 b
-folder_ron_later_depth e = omega (arith, e)
-
 pub folder_ron_means_opened : (y : Folder-F Folder)
     → folder_means_step (map-Folder Folder Meaning folder_means y)
     ≡ folder_ron_layer.means folder_means (folder_opened y)
@@ -46,7 +42,7 @@ folder_ron_means_opened y = refl
 pub folder_ron_depth_opened : (y : Folder-F Folder)
     → folder_depth_step (map-Folder Folder ℕ folder_depth y)
     ≡ folder_ron_layer.deep folder_depth (folder_opened y)
-folder_ron_depth_opened y = folder_ron_later_depth (list_depth _ _ _ (λ x. refl) y.folders.items)
+folder_ron_depth_opened y = later_depth (list_depth _ _ _ (λ x. refl) y.folders.items)
 
 abbrev pub folder_ron_nested : Nested ron ron_grammar Folder
 folder_ron_nested = record {
@@ -63,11 +59,12 @@ folder_ron_nested = record {
 abbrev pub folder_ron_at : ℕ → Codec Folder
 folder_ron_at = level folder_ron_nested
 
--- those that are read
-abbrev pub folder_ron : Codec Folder
-folder_ron = limited folder_ron_nested 128
-
-pub folder_ron_agrees : Agrees folder_means folder_codec.encoding.legal folder_means folder_ron.encoding.legal
+pub folder_ron_agrees : Agrees folder_means folder_codec.encoding.legal folder_means
+    (limited folder_ron_nested 128).encoding.legal
 folder_ron_agrees =
     agree_through (bin_agrees folder_nested folder_step (λ f. refl))
     (nested_agrees folder_ron_nested folder_step (λ f. refl) 128)
+
+-- those that are read, and what is legal in the words of the format before
+abbrev pub folder_ron : Codec Folder
+folder_ron = legal_as (limited folder_ron_nested 128) folder_ron_agrees

@@ -9,7 +9,7 @@ use Rattle.nano_levels.proofs.LayersLaws.{itself_layer, other_layer}
 use Rattle.nano_levels.proofs.LevelsLaws.{level, limited}
 use Rattle.nano_schema_levels.specs.VariantLayers.{VariantsLayer}
 use Rattle.nano_schema_levels.proofs.FieldLayersLaws.{fields_pair_layer, optional_layer, required_layer, struct_layer}
-use Rattle.nano_schema_levels.proofs.LegalLevelsLaws.{agree_through, nested_agrees}
+use Rattle.nano_schema_levels.proofs.LegalLevelsLaws.{agree_through, legal_as, nested_agrees}
 use Rattle.nano_schema_levels.proofs.PartLaws.{seen_layer, single_layer}
 use Rattle.nano_schema_levels.proofs.VariantLayersLaws.{choice_layer, last_variant, next_unit, next_variant}
 use Rattle.nano_bin_nested.proofs.LegalLaws.{nested_agrees as bin_agrees}
@@ -78,11 +78,12 @@ rule_json_nested = record {
 abbrev pub rule_json_at : ℕ → Codec Rule
 rule_json_at = level rule_json_nested
 
--- those that are read
-abbrev pub rule_json : Codec Rule
-rule_json = limited rule_json_nested 5
-
-pub rule_json_agrees : Agrees rule_means rule_codec.encoding.legal rule_means rule_json.encoding.legal
+pub rule_json_agrees : Agrees rule_means rule_codec.encoding.legal rule_means
+    (limited rule_json_nested 5).encoding.legal
 rule_json_agrees =
     agree_through (bin_agrees rule_nested rule_step (λ f. refl))
     (nested_agrees rule_json_nested rule_step (λ f. refl) 5)
+
+-- those that are read, and what is legal in the words of the format before
+abbrev pub rule_json : Codec Rule
+rule_json = legal_as (limited rule_json_nested 5) rule_json_agrees

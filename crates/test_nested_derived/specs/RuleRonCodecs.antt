@@ -9,7 +9,7 @@ use Rattle.nano_levels.proofs.LayersLaws.{itself_layer, other_layer}
 use Rattle.nano_levels.proofs.LevelsLaws.{level, limited}
 use Rattle.nano_schema_levels.specs.VariantLayers.{VariantsLayer}
 use Rattle.nano_schema_levels.proofs.FieldLayersLaws.{fields_pair_layer, optional_layer, required_layer, struct_layer}
-use Rattle.nano_schema_levels.proofs.LegalLevelsLaws.{agree_through, nested_agrees}
+use Rattle.nano_schema_levels.proofs.LegalLevelsLaws.{agree_through, legal_as, nested_agrees}
 use Rattle.nano_schema_levels.proofs.PartLaws.{seen_layer, single_layer}
 use Rattle.nano_schema_levels.proofs.VariantLayersLaws.{choice_layer, last_variant, next_unit, next_variant}
 use Rattle.nano_bin_nested.proofs.LegalLaws.{nested_agrees as bin_agrees}
@@ -81,16 +81,17 @@ rule_ron_nested = record {
 abbrev pub rule_ron_at : ℕ → Codec Rule
 rule_ron_at = level rule_ron_nested
 
--- those that are read
+pub rule_ron_agrees : Agrees rule_means rule_codec.encoding.legal rule_means
+    (limited rule_ron_nested 5).encoding.legal
+rule_ron_agrees =
+    agree_through (bin_agrees rule_nested rule_step (λ f. refl))
+    (nested_agrees rule_ron_nested rule_step (λ f. refl) 5)
+
+-- those that are read, and what is legal in the words of the format before
 abbrev pub rule_ron : Codec Rule
-rule_ron = limited rule_ron_nested 5
+rule_ron = legal_as (limited rule_ron_nested 5) rule_ron_agrees
 
 -- a value of `When` as it is written
 abbrev pub rule_ron_of_when : ℕ → Box Rule Global → Box Rule Global → Option (Box Rule Global) → List ℕ
 rule_ron_of_when d v0 v1 v2 =
     content_text (codes "When") ((rule_ron_content_when.codec rule_ron).canonical.text d (v0, (v1, v2)))
-
-pub rule_ron_agrees : Agrees rule_means rule_codec.encoding.legal rule_means rule_ron.encoding.legal
-rule_ron_agrees =
-    agree_through (bin_agrees rule_nested rule_step (λ f. refl))
-    (nested_agrees rule_ron_nested rule_step (λ f. refl) 5)

@@ -7,7 +7,7 @@ use Rattle.nano_levels.specs.Layers.{Layer, Nested}
 use Rattle.nano_levels.proofs.LayersLaws.{itself_layer, list_layer, other_layer}
 use Rattle.nano_levels.proofs.LevelsLaws.{level, limited}
 use Rattle.nano_schema_levels.specs.VariantLayers.{VariantsLayer}
-use Rattle.nano_schema_levels.proofs.LegalLevelsLaws.{agree_through, nested_agrees}
+use Rattle.nano_schema_levels.proofs.LegalLevelsLaws.{agree_through, legal_as, nested_agrees}
 use Rattle.nano_schema_levels.proofs.PartLaws.{seen_layer, single_layer}
 use Rattle.nano_schema_levels.proofs.VariantLayersLaws.{choice_layer, last_variant, next_variant}
 use Rattle.nano_bin_nested.proofs.LegalLaws.{nested_agrees as bin_agrees}
@@ -61,11 +61,12 @@ tree_json_nested = record {
 abbrev pub tree_json_at : ℕ → Codec Tree
 tree_json_at = level tree_json_nested
 
--- those that are read
-abbrev pub tree_json : Codec Tree
-tree_json = limited tree_json_nested 128
-
-pub tree_json_agrees : Agrees tree_means tree_codec.encoding.legal tree_means tree_json.encoding.legal
+pub tree_json_agrees : Agrees tree_means tree_codec.encoding.legal tree_means
+    (limited tree_json_nested 128).encoding.legal
 tree_json_agrees =
     agree_through (bin_agrees tree_nested tree_step (λ f. refl))
     (nested_agrees tree_json_nested tree_step (λ f. refl) 128)
+
+-- those that are read, and what is legal in the words of the format before
+abbrev pub tree_json : Codec Tree
+tree_json = legal_as (limited tree_json_nested 128) tree_json_agrees

@@ -7,7 +7,7 @@ use Rattle.nano_levels.specs.Layers.{Layer, Nested}
 use Rattle.nano_levels.proofs.LayersLaws.{itself_layer, list_layer, other_layer}
 use Rattle.nano_levels.proofs.LevelsLaws.{level, limited}
 use Rattle.nano_schema_levels.specs.VariantLayers.{VariantsLayer}
-use Rattle.nano_schema_levels.proofs.LegalLevelsLaws.{agree_through, nested_agrees}
+use Rattle.nano_schema_levels.proofs.LegalLevelsLaws.{agree_through, legal_as, nested_agrees}
 use Rattle.nano_schema_levels.proofs.PartLaws.{seen_layer, single_layer}
 use Rattle.nano_schema_levels.proofs.VariantLayersLaws.{choice_layer, last_variant, next_variant}
 use Rattle.nano_bin_nested.proofs.LegalLaws.{nested_agrees as bin_agrees}
@@ -62,11 +62,12 @@ tree_ron_nested = record {
 abbrev pub tree_ron_at : ℕ → Codec Tree
 tree_ron_at = level tree_ron_nested
 
--- those that are read
-abbrev pub tree_ron : Codec Tree
-tree_ron = limited tree_ron_nested 128
-
-pub tree_ron_agrees : Agrees tree_means tree_codec.encoding.legal tree_means tree_ron.encoding.legal
+pub tree_ron_agrees : Agrees tree_means tree_codec.encoding.legal tree_means
+    (limited tree_ron_nested 128).encoding.legal
 tree_ron_agrees =
     agree_through (bin_agrees tree_nested tree_step (λ f. refl))
     (nested_agrees tree_ron_nested tree_step (λ f. refl) 128)
+
+-- those that are read, and what is legal in the words of the format before
+abbrev pub tree_ron : Codec Tree
+tree_ron = legal_as (limited tree_ron_nested 128) tree_ron_agrees

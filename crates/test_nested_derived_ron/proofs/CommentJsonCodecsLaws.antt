@@ -1,8 +1,7 @@
 -- Written by derive_files: what is proved of types that contain themselves.
-use Rattle.std.specs.Prelude.{◌≡◌, ◌++◌, ◌∷◌, [], ℕ, List, map, refl, codes, Bool, Box, Vec, string_bytes}
+use Rattle.std.specs.Prelude.{◌≡◌, ℕ, List, map, refl, codes, Box, Vec, string_bytes}
 use Rattle.std.specs.Global.{Global}
 use Rattle.std.specs.Option.{option_map}
-use Rattle.std.proofs.Common.{◌∙◌, ap}
 use Rattle.nano_value.specs.Meaning.{truth, number, text, optional, listed, paired}
 use Rattle.nano_grammar.specs.FieldCodec.{WrittenField, fields_text}
 use Rattle.nano_schema_levels.proofs.NestedLaws.{legal_seen, text_seen}
@@ -11,7 +10,6 @@ use Rattle.nano_json.specs.ScalarCodecs.{boolean_codec}
 use Rattle.nano_json.specs.ContainerCodecs.{list_codec, option_codec}
 use Rattle.nano_json_tokens.specs.Token.{Token}
 use Rattle.nano_json_schema.specs.FieldCodecs.{json_fields, optional_field, required_field, i32_codec, string_codec}
-use Rattle.nano_json_schema.specs.Outcomes.{none_yet}
 use Rattle.test_nested_derived_ron.specs.declared.comment.Comment.{Comment}
 use Rattle.test_nested_derived_ron.specs.CommentCodecs.{comment_view, comment_means}
 use Rattle.test_nested_derived_ron.specs.CommentJsonCodecs.{comment_json_nested, comment_json, comment_json_fields}
@@ -62,10 +60,3 @@ pub comment_legal : (x : Comment)
 comment_legal x h0 h1 h2 h3 h4 h5 =
     legal_seen comment_json_nested 128 x (comment_view x) refl
     (record { part = (paired (text (string_bytes (out-Comment x).author), paired (text (string_bytes (out-Comment x).text), number (out-Comment x).votes)), paired (optional (option_map truth (out-Comment x).pinned), paired (optional (option_map (λ x. comment_means x.value) (out-Comment x).quoted), listed (map comment_means (out-Comment x).answers.items)))); has = ((record { part = (text (string_bytes (out-Comment x).author), paired (text (string_bytes (out-Comment x).text), number (out-Comment x).votes)); has = (h0, (record { part = (text (string_bytes (out-Comment x).text), number (out-Comment x).votes); has = (h1, h2); is = refl })); is = refl }), (record { part = (optional (option_map truth (out-Comment x).pinned), paired (optional (option_map (λ x. comment_means x.value) (out-Comment x).quoted), listed (map comment_means (out-Comment x).answers.items))); has = (h3, (record { part = (optional (option_map (λ x. comment_means x.value) (out-Comment x).quoted), listed (map comment_means (out-Comment x).answers.items)); has = (h4, h5); is = refl })); is = refl })); is = refl })
-
--- whether none comes before what follows fields and more fields
-pub comment_json_none_so_far : {A : Type 0} (first second third : Bool) (xs ys : List A)
-    → second ≡ none_yet first xs → third ≡ none_yet second ys → third ≡ none_yet first (xs ++ ys)
-comment_json_none_so_far first second third [] ys e k = k ∙ ap (λ b. none_yet b ys) e
-comment_json_none_so_far first second third (x ∷ xs) [] e k = k ∙ e
-comment_json_none_so_far first second third (x ∷ xs) (y ∷ ys) e k = k

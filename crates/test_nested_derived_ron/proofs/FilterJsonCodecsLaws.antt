@@ -1,9 +1,8 @@
 -- Written by derive_files: what is proved of types that contain themselves.
-use Rattle.std.specs.Prelude.{◌≡◌, ◌++◌, ◌∷◌, [], ℕ, List, map, refl, codes, encode_utf8_all, Box, Option, String, Vec, string_bytes}
+use Rattle.std.specs.Prelude.{◌≡◌, ℕ, List, map, refl, codes, Box, Option, String, Vec, string_bytes}
 use Rattle.std.specs.Global.{Global}
 use Rattle.std.specs.Option.{option_map}
-use Rattle.std.proofs.Common.{◌∙◌, ap, append_assoc, inl, inr, lit<, sym}
-use Rattle.std.proofs.lemmas.Str.{encode_ascii, encodes-append}
+use Rattle.std.proofs.Common.{inl, inr}
 use Rattle.nano_value.specs.Meaning.{nothing, whole, text, optional, listed, paired}
 use Rattle.nano_schema.specs.declared.choices.Either.TheVariants.{First, Later}
 use Rattle.nano_grammar.specs.FieldCodec.{WrittenField}
@@ -93,31 +92,3 @@ filter_legal_has v0 v1 h0 h1 =
     (inr (inr (inr (inl (record { part = paired (text (string_bytes v0), optional (option_map (λ x. filter_means x.value) v1)); has = (record { part = (text (string_bytes v0), optional (option_map (λ x. filter_means x.value) v1)); has = (h0, h1); is = refl }); is = refl })))))
 
 pub ruleset filter_json_texts = (filter_json_text_any, filter_json_text_not, filter_json_text_at_least, filter_json_text_has)
-
--- a name, a colon and content between braces
-pub filter_json_between : (name body before opened named colon inside after : List ℕ)
-    → opened ≡ before ++ 123 ∷ [] → named ≡ opened ++ encode_utf8_all name
-    → colon ≡ named ++ 58 ∷ [] → inside ≡ colon ++ encode_utf8_all body
-    → after ≡ inside ++ 125 ∷ []
-    → after ≡ before ++ encode_utf8_all (123 ∷ (name ++ 58 ∷ (body ++ 125 ∷ [])))
-filter_json_between name body before opened named colon inside after e h k m n =
-    let words = encode_utf8_all name in
-    let content = encode_utf8_all body in
-    let start = before ++ 123 ∷ [] in
-    let closed : encode_utf8_all (body ++ 125 ∷ []) ≡ content ++ 125 ∷ [] =
-    encodes-append body (125 ∷ []) ∙ (λ j. content ++ (encode_ascii 125 (lit< tt) j ++ [])) in
-    let rest : encode_utf8_all (name ++ 58 ∷ (body ++ 125 ∷ []))
-    ≡ words ++ 58 ∷ (content ++ 125 ∷ []) =
-    encodes-append name (58 ∷ (body ++ 125 ∷ []))
-    ∙ (λ j. words ++ (encode_ascii 58 (lit< tt) j ++ closed j)) in
-    let inner : encode_utf8_all (123 ∷ (name ++ 58 ∷ (body ++ 125 ∷ [])))
-    ≡ 123 ∷ (words ++ 58 ∷ (content ++ 125 ∷ [])) =
-    λ i. encode_ascii 123 (lit< tt) i ++ rest i in
-    n
-    ∙ (ap (λ l. l ++ 125 ∷ []) (m ∙ ap (λ l. l ++ content)
-    (k ∙ ap (λ l. l ++ 58 ∷ []) (h ∙ ap (λ l. l ++ words) e)))
-    ∙ (append_assoc ((start ++ words) ++ 58 ∷ []) content (125 ∷ [])
-    ∙ (append_assoc (start ++ words) (58 ∷ []) (content ++ 125 ∷ [])
-    ∙ (append_assoc start words (58 ∷ (content ++ 125 ∷ []))
-    ∙ (append_assoc before (123 ∷ []) (words ++ 58 ∷ (content ++ 125 ∷ []))
-    ∙ ap (λ l. before ++ l) (sym inner))))))

@@ -1,8 +1,8 @@
 -- Written by derive_files: types that contain themselves, and their codecs.
-use Rattle.std.specs.Prelude.{◌≡◌, ℕ, max, refl, codes}
-use Rattle.std.proofs.Common.{◌∙◌, arith}
+use Rattle.std.specs.Prelude.{◌≡◌, ℕ, refl, codes}
+use Rattle.std.proofs.Common.{◌∙◌}
 use Rattle.nano_value.specs.Meaning.{Meaning, text}
-use Rattle.nano_schema_levels.proofs.StepsLaws.{by_option, list_depth, pair_depth}
+use Rattle.nano_schema_levels.proofs.StepsLaws.{by_option, later_depth, list_depth, pair_depth}
 use Rattle.nano_levels.specs.Layers.{Layer, Nested}
 use Rattle.nano_levels.proofs.LayersLaws.{itself_layer, list_layer}
 use Rattle.nano_levels.proofs.LevelsLaws.{level, limited}
@@ -30,10 +30,6 @@ comment_json_fields =
 abbrev pub comment_json_layer : Layer json json_grammar Comment (CommentContent Comment)
 comment_json_layer = struct_layer comment_json_fields (λ f. ascii_names refl) (λ f. refl)
 
--- what holds no values of the type before what does
-pub comment_json_later_depth : {a b : ℕ} → a ≡ b → a ≡ max 0 b
-comment_json_later_depth e = omega (arith, e)
-
 pub comment_json_means_opened : (y : Comment-F Comment)
     → comment_means_step (map-Comment Comment Meaning comment_means y)
     ≡ comment_json_layer.means comment_means (comment_opened y)
@@ -49,7 +45,7 @@ pub comment_json_depth_opened : (y : Comment-F Comment)
 comment_json_depth_opened y =
     by_option (λ o. comment_depth_step (map-Comment Comment ℕ comment_depth (record { author = y.author; text = y.text; votes = y.votes; pinned = y.pinned; quoted = o; answers = y.answers }))
     ≡ comment_json_layer.deep comment_depth (comment_opened {X = Comment} (record { author = y.author; text = y.text; votes = y.votes; pinned = y.pinned; quoted = o; answers = y.answers })))
-    (comment_json_later_depth (comment_json_later_depth (pair_depth refl (list_depth _ _ _ (λ x. refl) y.answers.items)))) (λ x4. comment_json_later_depth (comment_json_later_depth (pair_depth refl (list_depth _ _ _ (λ x. refl) y.answers.items))))
+    (later_depth (later_depth (pair_depth refl (list_depth _ _ _ (λ x. refl) y.answers.items)))) (λ x4. later_depth (later_depth (pair_depth refl (list_depth _ _ _ (λ x. refl) y.answers.items))))
     y.quoted
 
 abbrev pub comment_json_nested : Nested json json_grammar Comment

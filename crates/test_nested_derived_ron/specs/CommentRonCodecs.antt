@@ -1,14 +1,14 @@
 -- Written by derive_files: types that contain themselves, and their codecs.
-use Rattle.std.specs.Prelude.{◌≡◌, ℕ, max, refl, codes}
-use Rattle.std.proofs.Common.{◌∙◌, arith}
+use Rattle.std.specs.Prelude.{◌≡◌, ℕ, refl, codes}
+use Rattle.std.proofs.Common.{◌∙◌}
 use Rattle.nano_value.specs.Meaning.{Meaning, Agrees, text}
-use Rattle.nano_schema_levels.proofs.StepsLaws.{by_option, list_depth, pair_depth}
+use Rattle.nano_schema_levels.proofs.StepsLaws.{by_option, later_depth, list_depth, pair_depth}
 use Rattle.nano_levels.specs.Layers.{Layer, Nested}
 use Rattle.nano_levels.proofs.LayersLaws.{itself_layer, list_layer}
 use Rattle.nano_levels.proofs.LevelsLaws.{level, limited}
 use Rattle.nano_schema_levels.specs.FieldLayers.{FieldsLayer}
 use Rattle.nano_schema_levels.proofs.FieldLayersLaws.{fields_pair_layer, optional_layer, other_fields, required_layer, struct_layer}
-use Rattle.nano_schema_levels.proofs.LegalLevelsLaws.{agree_through, nested_agrees}
+use Rattle.nano_schema_levels.proofs.LegalLevelsLaws.{agree_through, legal_as, nested_agrees}
 use Rattle.nano_schema_levels.proofs.PartLaws.{seen_layer}
 use Rattle.nano_ron.specs.Codec.{Codec}
 use Rattle.nano_ron.specs.ScalarCodecs.{boolean_codec}
@@ -35,10 +35,6 @@ comment_ron_fields =
 abbrev pub comment_ron_layer : Layer ron ron_grammar Comment (CommentContent Comment)
 comment_ron_layer = struct_layer comment_ron_fields (λ f. word_names refl) (λ f. refl)
 
--- what holds no values of the type before what does
-pub comment_ron_later_depth : {a b : ℕ} → a ≡ b → a ≡ max 0 b
-comment_ron_later_depth e = omega (arith, e)
-
 pub comment_ron_means_opened : (y : Comment-F Comment)
     → comment_means_step (map-Comment Comment Meaning comment_means y)
     ≡ comment_ron_layer.means comment_means (comment_opened y)
@@ -54,7 +50,7 @@ pub comment_ron_depth_opened : (y : Comment-F Comment)
 comment_ron_depth_opened y =
     by_option (λ o. comment_depth_step (map-Comment Comment ℕ comment_depth (record { author = y.author; text = y.text; votes = y.votes; pinned = y.pinned; quoted = o; answers = y.answers }))
     ≡ comment_ron_layer.deep comment_depth (comment_opened {X = Comment} (record { author = y.author; text = y.text; votes = y.votes; pinned = y.pinned; quoted = o; answers = y.answers })))
-    (comment_ron_later_depth (comment_ron_later_depth (pair_depth refl (list_depth _ _ _ (λ x. refl) y.answers.items)))) (λ x4. comment_ron_later_depth (comment_ron_later_depth (pair_depth refl (list_depth _ _ _ (λ x. refl) y.answers.items))))
+    (later_depth (later_depth (pair_depth refl (list_depth _ _ _ (λ x. refl) y.answers.items)))) (λ x4. later_depth (later_depth (pair_depth refl (list_depth _ _ _ (λ x. refl) y.answers.items))))
     y.quoted
 
 abbrev pub comment_ron_nested : Nested ron ron_grammar Comment
@@ -72,11 +68,12 @@ comment_ron_nested = record {
 abbrev pub comment_ron_at : ℕ → Codec Comment
 comment_ron_at = level comment_ron_nested
 
--- those that are read
-abbrev pub comment_ron : Codec Comment
-comment_ron = limited comment_ron_nested 128
-
-pub comment_ron_agrees : Agrees comment_means comment_json.encoding.legal comment_means comment_ron.encoding.legal
+pub comment_ron_agrees : Agrees comment_means comment_json.encoding.legal comment_means
+    (limited comment_ron_nested 128).encoding.legal
 comment_ron_agrees =
     agree_through (nested_agrees comment_json_nested comment_step (λ f. refl) 128)
     (nested_agrees comment_ron_nested comment_step (λ f. refl) 128)
+
+-- those that are read, and what is legal in the words of the format before
+abbrev pub comment_ron : Codec Comment
+comment_ron = legal_as (limited comment_ron_nested 128) comment_ron_agrees

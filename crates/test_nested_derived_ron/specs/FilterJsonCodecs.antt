@@ -1,9 +1,9 @@
 -- Written by derive_files: types that contain themselves, and their codecs.
-use Rattle.std.specs.Prelude.{◌≡◌, ℕ, max, refl, codes, Box, Option, String}
+use Rattle.std.specs.Prelude.{◌≡◌, ℕ, refl, codes, Box, Option, String}
 use Rattle.std.specs.Global.{Global}
-use Rattle.std.proofs.Common.{◌∙◌, arith}
+use Rattle.std.proofs.Common.{◌∙◌}
 use Rattle.nano_value.specs.Meaning.{Meaning}
-use Rattle.nano_schema_levels.proofs.StepsLaws.{by_option, list_depth}
+use Rattle.nano_schema_levels.proofs.StepsLaws.{by_option, later_depth, list_depth}
 use Rattle.nano_levels.specs.Layers.{Layer, Nested}
 use Rattle.nano_levels.proofs.LayersLaws.{itself_layer, list_layer, other_layer}
 use Rattle.nano_levels.proofs.LevelsLaws.{level, limited}
@@ -39,10 +39,6 @@ filter_json_variants =
 abbrev pub filter_json_layer : Layer json json_grammar Filter (FilterContent Filter)
 filter_json_layer = choice_layer filter_json_variants (λ f. refl) (λ f. refl)
 
--- what holds no values of the type before what does
-pub filter_json_later_depth : {a b : ℕ} → a ≡ b → a ≡ max 0 b
-filter_json_later_depth e = omega (arith, e)
-
 pub filter_json_means_opened : (y : Filter-F Filter)
     → filter_means_step (map-Filter Filter Meaning filter_means y)
     ≡ filter_json_layer.means filter_means (filter_opened y)
@@ -61,11 +57,11 @@ pub filter_json_depth_opened : (y : Filter-F Filter)
 filter_json_depth_opened Filter-F.Any = refl
 filter_json_depth_opened (Filter-F.Not v) = refl
 filter_json_depth_opened (Filter-F.AtLeast v0 v1) =
-    filter_json_later_depth (list_depth _ _ _ (λ x. refl) v1.items)
+    later_depth (list_depth _ _ _ (λ x. refl) v1.items)
 filter_json_depth_opened (Filter-F.Has v0 v1) =
     by_option (λ o. filter_depth_step (map-Filter Filter ℕ filter_depth (Filter-F.Has v0 o))
     ≡ filter_json_layer.deep filter_depth (filter_opened {X = Filter} (Filter-F.Has v0 o)))
-    refl (λ x1. filter_json_later_depth refl)
+    refl (λ x1. later_depth refl)
     v1
 
 abbrev pub filter_json_nested : Nested json json_grammar Filter

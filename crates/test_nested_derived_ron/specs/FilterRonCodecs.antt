@@ -1,15 +1,15 @@
 -- Written by derive_files: types that contain themselves, and their codecs.
-use Rattle.std.specs.Prelude.{◌≡◌, ℕ, List, max, refl, codes, Box, Option, String}
+use Rattle.std.specs.Prelude.{◌≡◌, ℕ, List, refl, codes, Box, Option, String}
 use Rattle.std.specs.Global.{Global}
-use Rattle.std.proofs.Common.{◌∙◌, arith}
+use Rattle.std.proofs.Common.{◌∙◌}
 use Rattle.nano_value.specs.Meaning.{Meaning, Agrees}
-use Rattle.nano_schema_levels.proofs.StepsLaws.{by_option, list_depth}
+use Rattle.nano_schema_levels.proofs.StepsLaws.{by_option, later_depth, list_depth}
 use Rattle.nano_levels.specs.Layers.{Layer, Nested}
 use Rattle.nano_levels.proofs.LayersLaws.{itself_layer, list_layer, other_layer}
 use Rattle.nano_levels.proofs.LevelsLaws.{level, limited}
 use Rattle.nano_schema_levels.specs.VariantLayers.{VariantsLayer}
 use Rattle.nano_schema_levels.proofs.FieldLayersLaws.{fields_pair_layer, optional_layer, other_fields, struct_layer}
-use Rattle.nano_schema_levels.proofs.LegalLevelsLaws.{agree_through, nested_agrees}
+use Rattle.nano_schema_levels.proofs.LegalLevelsLaws.{agree_through, legal_as, nested_agrees}
 use Rattle.nano_schema_levels.proofs.PartLaws.{pair_layer, seen_layer, single_layer}
 use Rattle.nano_schema_levels.proofs.VariantLayersLaws.{choice_layer, last_variant, next_unit, next_variant}
 use Rattle.nano_ron.specs.Codec.{Codec}
@@ -45,10 +45,6 @@ filter_ron_variants =
 abbrev pub filter_ron_layer : Layer ron ron_grammar Filter (FilterContent Filter)
 filter_ron_layer = choice_layer filter_ron_variants (λ f. refl) (λ f. refl)
 
--- what holds no values of the type before what does
-pub filter_ron_later_depth : {a b : ℕ} → a ≡ b → a ≡ max 0 b
-filter_ron_later_depth e = omega (arith, e)
-
 pub filter_ron_means_opened : (y : Filter-F Filter)
     → filter_means_step (map-Filter Filter Meaning filter_means y)
     ≡ filter_ron_layer.means filter_means (filter_opened y)
@@ -67,11 +63,11 @@ pub filter_ron_depth_opened : (y : Filter-F Filter)
 filter_ron_depth_opened Filter-F.Any = refl
 filter_ron_depth_opened (Filter-F.Not v) = refl
 filter_ron_depth_opened (Filter-F.AtLeast v0 v1) =
-    filter_ron_later_depth (list_depth _ _ _ (λ x. refl) v1.items)
+    later_depth (list_depth _ _ _ (λ x. refl) v1.items)
 filter_ron_depth_opened (Filter-F.Has v0 v1) =
     by_option (λ o. filter_depth_step (map-Filter Filter ℕ filter_depth (Filter-F.Has v0 o))
     ≡ filter_ron_layer.deep filter_depth (filter_opened {X = Filter} (Filter-F.Has v0 o)))
-    refl (λ x1. filter_ron_later_depth refl)
+    refl (λ x1. later_depth refl)
     v1
 
 abbrev pub filter_ron_nested : Nested ron ron_grammar Filter
@@ -89,16 +85,17 @@ filter_ron_nested = record {
 abbrev pub filter_ron_at : ℕ → Codec Filter
 filter_ron_at = level filter_ron_nested
 
--- those that are read
+pub filter_ron_agrees : Agrees filter_means filter_json.encoding.legal filter_means
+    (limited filter_ron_nested 128).encoding.legal
+filter_ron_agrees =
+    agree_through (nested_agrees filter_json_nested filter_step (λ f. refl) 128)
+    (nested_agrees filter_ron_nested filter_step (λ f. refl) 128)
+
+-- those that are read, and what is legal in the words of the format before
 abbrev pub filter_ron : Codec Filter
-filter_ron = limited filter_ron_nested 128
+filter_ron = legal_as (limited filter_ron_nested 128) filter_ron_agrees
 
 -- a value of `Has` as it is written
 abbrev pub filter_ron_of_has : ℕ → String Global → Option (Box Filter Global) → List ℕ
 filter_ron_of_has d v0 v1 =
     content_text (codes "Has") ((filter_ron_content_has.codec filter_ron).canonical.text d (v0, v1))
-
-pub filter_ron_agrees : Agrees filter_means filter_json.encoding.legal filter_means filter_ron.encoding.legal
-filter_ron_agrees =
-    agree_through (nested_agrees filter_json_nested filter_step (λ f. refl) 128)
-    (nested_agrees filter_ron_nested filter_step (λ f. refl) 128)

@@ -1,17 +1,15 @@
 -- Written by derive_files: types that contain themselves, and their codecs.
-use Rattle.std.specs.Prelude.{◌≡◌, ℕ, List, suc, map, refl, String, string_bytes, string_cmp}
+use Rattle.std.specs.Prelude.{◌≡◌, ℕ, suc, map, refl, String, string_bytes, string_cmp}
 use Rattle.std.specs.BTreeMap.{BTreeMap}
 use Rattle.std.specs.Global.{Global}
-use Rattle.std.specs.declared.cmp.Ordering.{Ordering}
-use Rattle.std.proofs.Common.{◌∙◌, ap, sym}
+use Rattle.std.proofs.Common.{◌∙◌}
 use Rattle.nano_value.specs.Meaning.{Meaning, text, paired, LegalText, LegalPair}
 use Rattle.nano_value.specs.Ordered.{ordered_map_means}
 use Rattle.nano_value.specs.Tables.{LegalMap}
 use Rattle.nano_meaning.proofs.OrderLaws.{texts}
 use Rattle.nano_levels.specs.Layers.{greatest}
-use Rattle.nano_levels.proofs.EntriesLaws.{ordered_map_means-values}
 use Rattle.nano_schema_levels.specs.LegalLevels.{LegalStep}
-use Rattle.nano_schema_levels.proofs.StepsLaws.{list_depth, map_steps, pair_means}
+use Rattle.nano_schema_levels.proofs.StepsLaws.{list_depth, map_means, pair_means}
 use Rattle.nano_bin_bytes.specs.Codec.{Codec}
 use Rattle.nano_bin.specs.ScalarCodecs.{string_codec}
 use Rattle.nano_bin_levels.specs.Layers.{Layer, Nested}
@@ -49,17 +47,6 @@ menu_depth_step y = greatest (map (λ (x : (String Global) × ℕ). suc x.1) y.e
 abbrev pub menu_depth : Menu → ℕ
 menu_depth = fold-Menu ℕ menu_depth_step
 
--- what a map means, step by step from what its values mean
-pub menu_map_means : {K A B : Type 0} (c : K → K → Ordering) (k : K → Meaning) (s : B → Meaning)
-    (g : K × A → K × B) (m : A → Meaning)
-    → ((e : K × A) → ◌≡◌ {A = K × Meaning} ((g e).0, s (g e).1) (e.0, m e.1))
-    → (es : List (K × A)) → ordered_map_means c k s (map g es) ≡ ordered_map_means c k m es
-menu_map_means c k s g m same es =
-    sym (ordered_map_means-values k s c (map g es))
-    ∙ (ap (ordered_map_means c k (λ x. x))
-    (map_steps (λ e. (e.0, s e.1)) g (λ e. (e.0, m e.1)) same es)
-    ∙ ordered_map_means-values k m c es)
-
 -- ---- which meanings are legal, given those that are of the values in it
 
 abbrev pub menu_step : LegalStep
@@ -75,7 +62,7 @@ pub menu_means_opened : (y : Menu-F Menu)
     → menu_means_step (map-Menu Menu Meaning menu_means y)
     ≡ menu_layer.means menu_means (menu_opened y)
 menu_means_opened y =
-    pair_means refl (menu_map_means string_cmp (λ x. text (string_bytes x)) (λ x. x) _ menu_means (λ x. refl) y.entries.entries)
+    pair_means refl (map_means string_cmp (λ x. text (string_bytes x)) (λ x. x) _ menu_means (λ x. refl) y.entries.entries)
 
 pub menu_depth_opened : (y : Menu-F Menu)
     → menu_depth_step (map-Menu Menu ℕ menu_depth y)

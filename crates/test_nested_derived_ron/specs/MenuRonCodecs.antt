@@ -1,15 +1,15 @@
 -- Written by derive_files: types that contain themselves, and their codecs.
-use Rattle.std.specs.Prelude.{◌≡◌, ℕ, max, refl, codes, string_bytes, string_cmp}
-use Rattle.std.proofs.Common.{◌∙◌, arith}
+use Rattle.std.specs.Prelude.{◌≡◌, ℕ, refl, codes, string_bytes, string_cmp}
+use Rattle.std.proofs.Common.{◌∙◌}
 use Rattle.nano_value.specs.Meaning.{Meaning, Agrees, text}
 use Rattle.nano_meaning.proofs.OrderLaws.{texts, texts_follow}
-use Rattle.nano_schema_levels.proofs.StepsLaws.{list_depth, pair_means}
+use Rattle.nano_schema_levels.proofs.StepsLaws.{later_depth, list_depth, map_means, pair_means}
 use Rattle.nano_levels.specs.Layers.{Layer, Nested}
 use Rattle.nano_levels.proofs.LayersLaws.{itself_layer}
 use Rattle.nano_levels.proofs.LevelsLaws.{level, limited}
 use Rattle.nano_schema_levels.specs.FieldLayers.{FieldsLayer}
 use Rattle.nano_schema_levels.proofs.FieldLayersLaws.{fields_pair_layer, other_fields, required_layer, struct_layer}
-use Rattle.nano_schema_levels.proofs.LegalLevelsLaws.{agree_through, nested_agrees}
+use Rattle.nano_schema_levels.proofs.LegalLevelsLaws.{agree_through, legal_as, nested_agrees}
 use Rattle.nano_schema_levels.proofs.MapLayersLaws.{follows_order, ordered_map_layer}
 use Rattle.nano_schema_levels.proofs.PartLaws.{seen_layer}
 use Rattle.nano_bin_nested.proofs.LegalLaws.{nested_agrees as bin_agrees}
@@ -24,7 +24,7 @@ use Rattle.test_nested_derived_ron.specs.declared.menu.Menu.TheOpen.{Menu-F}
 use Rattle.test_nested_derived_ron.specs.declared.menu.Menu.TheViews.{out-Menu}
 use Rattle.test_nested_derived_ron.specs.declared.menu.Menu.TheFolds.{map-Menu, fold_out-Menu}
 use Rattle.test_nested_derived_ron.specs.MenuCodecs.{MenuContent, menu_opened, menu_view, menu_means, menu_means_step}
-use Rattle.test_nested_derived_ron.specs.MenuCodecs.{menu_depth, menu_depth_step, menu_map_means}
+use Rattle.test_nested_derived_ron.specs.MenuCodecs.{menu_depth, menu_depth_step}
 use Rattle.test_nested_derived_ron.specs.MenuCodecs.{menu_step, menu_nested, menu_codec}
 
 -- ==== Menu: the layer around the values in it
@@ -36,20 +36,16 @@ menu_ron_fields =
 abbrev pub menu_ron_layer : Layer ron ron_grammar Menu (MenuContent Menu)
 menu_ron_layer = struct_layer menu_ron_fields (λ f. word_names refl) (λ f. refl)
 
--- what holds no values of the type before what does
-pub menu_ron_later_depth : {a b : ℕ} → a ≡ b → a ≡ max 0 b
-menu_ron_later_depth e = omega (arith, e)
-
 pub menu_ron_means_opened : (y : Menu-F Menu)
     → menu_means_step (map-Menu Menu Meaning menu_means y)
     ≡ menu_ron_layer.means menu_means (menu_opened y)
 menu_ron_means_opened y =
-    pair_means refl (menu_map_means string_cmp (λ x. text (string_bytes x)) (λ x. x) _ menu_means (λ x. refl) y.entries.entries)
+    pair_means refl (map_means string_cmp (λ x. text (string_bytes x)) (λ x. x) _ menu_means (λ x. refl) y.entries.entries)
 
 pub menu_ron_depth_opened : (y : Menu-F Menu)
     → menu_depth_step (map-Menu Menu ℕ menu_depth y)
     ≡ menu_ron_layer.deep menu_depth (menu_opened y)
-menu_ron_depth_opened y = menu_ron_later_depth (list_depth _ _ _ (λ x. refl) y.entries.entries)
+menu_ron_depth_opened y = later_depth (list_depth _ _ _ (λ x. refl) y.entries.entries)
 
 abbrev pub menu_ron_nested : Nested ron ron_grammar Menu
 menu_ron_nested = record {
@@ -66,11 +62,12 @@ menu_ron_nested = record {
 abbrev pub menu_ron_at : ℕ → Codec Menu
 menu_ron_at = level menu_ron_nested
 
--- those that are read
-abbrev pub menu_ron : Codec Menu
-menu_ron = limited menu_ron_nested 128
-
-pub menu_ron_agrees : Agrees menu_means menu_codec.encoding.legal menu_means menu_ron.encoding.legal
+pub menu_ron_agrees : Agrees menu_means menu_codec.encoding.legal menu_means
+    (limited menu_ron_nested 128).encoding.legal
 menu_ron_agrees =
     agree_through (bin_agrees menu_nested menu_step (λ f. refl))
     (nested_agrees menu_ron_nested menu_step (λ f. refl) 128)
+
+-- those that are read, and what is legal in the words of the format before
+abbrev pub menu_ron : Codec Menu
+menu_ron = legal_as (limited menu_ron_nested 128) menu_ron_agrees

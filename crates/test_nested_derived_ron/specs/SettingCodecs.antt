@@ -1,22 +1,20 @@
 -- Written by derive_files: types that contain themselves, and their codecs.
-use Rattle.std.specs.Prelude.{◌≡◌, ℕ, ℤ, List, suc, map, refl, String, Vec, string_bytes, string_cmp}
+use Rattle.std.specs.Prelude.{◌≡◌, ℕ, ℤ, suc, map, refl, String, Vec, string_bytes, string_cmp}
 use Rattle.std.specs.BTreeMap.{BTreeMap}
 use Rattle.std.specs.Global.{Global}
 use Rattle.std.specs.Int.{w32}
 use Rattle.std.specs.Ordering.{nat_cmp, int_cmp}
-use Rattle.std.specs.declared.cmp.Ordering.{Ordering}
-use Rattle.std.proofs.Common.{◌∙◌, ap, lit≤, sym}
+use Rattle.std.proofs.Common.{◌∙◌, ap, lit≤}
 use Rattle.nano_value.specs.Meaning.{Meaning, nothing, number, whole, text, listed, LegalUnsigned, LegalSigned, LegalUnit, LegalText, LegalList}
 use Rattle.nano_value.specs.Sums.{tagged, LegalVariant, variant, no_variants}
 use Rattle.nano_value.specs.Ordered.{ordered_map_means}
 use Rattle.nano_value.specs.Tables.{LegalMap}
 use Rattle.nano_meaning.proofs.OrderLaws.{texts, wholes, numbers}
 use Rattle.nano_levels.specs.Layers.{greatest}
-use Rattle.nano_levels.proofs.EntriesLaws.{ordered_map_means-values}
 use Rattle.nano_schema.specs.declared.choices.Either.{Either}
 use Rattle.nano_schema.specs.declared.choices.Either.TheVariants.{First, Later}
 use Rattle.nano_schema_levels.specs.LegalLevels.{LegalStep}
-use Rattle.nano_schema_levels.proofs.StepsLaws.{list_depth, map_steps}
+use Rattle.nano_schema_levels.proofs.StepsLaws.{list_depth, map_means}
 use Rattle.nano_bin_bytes.specs.Codec.{Codec}
 use Rattle.nano_bin_bytes.specs.BaseCodecs.{codec_as}
 use Rattle.nano_bin.specs.ScalarCodecs.{u16_codec, u64_codec, i32_codec, string_codec, unit_codec}
@@ -79,17 +77,6 @@ setting_depth_step (Setting-F.Lists v) =
 abbrev pub setting_depth : Setting → ℕ
 setting_depth = fold-Setting ℕ setting_depth_step
 
--- what a map means, step by step from what its values mean
-pub setting_map_means : {K A B : Type 0} (c : K → K → Ordering) (k : K → Meaning) (s : B → Meaning)
-    (g : K × A → K × B) (m : A → Meaning)
-    → ((e : K × A) → ◌≡◌ {A = K × Meaning} ((g e).0, s (g e).1) (e.0, m e.1))
-    → (es : List (K × A)) → ordered_map_means c k s (map g es) ≡ ordered_map_means c k m es
-setting_map_means c k s g m same es =
-    sym (ordered_map_means-values k s c (map g es))
-    ∙ (ap (ordered_map_means c k (λ x. x))
-    (map_steps (λ e. (e.0, s e.1)) g (λ e. (e.0, m e.1)) same es)
-    ∙ ordered_map_means-values k m c es)
-
 -- ---- which meanings are legal, given those that are of the values in it
 
 abbrev pub setting_step : LegalStep
@@ -116,9 +103,9 @@ setting_means_opened Setting-F.Unset = refl
 setting_means_opened (Setting-F.Text v) = refl
 setting_means_opened (Setting-F.Counts v) = refl
 setting_means_opened (Setting-F.Table v) =
-    ap (λ m. tagged 3 m) (setting_map_means string_cmp (λ x. text (string_bytes x)) (λ x. x) _ setting_means (λ x. refl) v.entries)
+    ap (λ m. tagged 3 m) (map_means string_cmp (λ x. text (string_bytes x)) (λ x. x) _ setting_means (λ x. refl) v.entries)
 setting_means_opened (Setting-F.Lists v) =
-    ap (λ m. tagged 4 m) (setting_map_means nat_cmp whole (λ x. listed x.items) _ (λ x. listed (map setting_means x.items)) (λ x. refl) v.entries)
+    ap (λ m. tagged 4 m) (map_means nat_cmp whole (λ x. listed x.items) _ (λ x. listed (map setting_means x.items)) (λ x. refl) v.entries)
 
 pub setting_depth_opened : (y : Setting-F Setting)
     → setting_depth_step (map-Setting Setting ℕ setting_depth y)

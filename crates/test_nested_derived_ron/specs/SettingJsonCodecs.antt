@@ -6,12 +6,12 @@ use Rattle.std.proofs.Common.{◌∙◌, ap}
 use Rattle.nano_value.specs.Meaning.{Meaning, Agrees, whole, text, listed}
 use Rattle.nano_value.specs.Sums.{tagged}
 use Rattle.nano_meaning.proofs.OrderLaws.{texts, texts_follow, wholes, unsigned_follow, numbers}
-use Rattle.nano_schema_levels.proofs.StepsLaws.{list_depth}
+use Rattle.nano_schema_levels.proofs.StepsLaws.{list_depth, map_means}
 use Rattle.nano_levels.specs.Layers.{Layer, Nested}
 use Rattle.nano_levels.proofs.LayersLaws.{itself_layer, list_layer, other_layer}
 use Rattle.nano_levels.proofs.LevelsLaws.{level, limited}
 use Rattle.nano_schema_levels.specs.VariantLayers.{VariantsLayer}
-use Rattle.nano_schema_levels.proofs.LegalLevelsLaws.{agree_through, nested_agrees}
+use Rattle.nano_schema_levels.proofs.LegalLevelsLaws.{agree_through, legal_as, nested_agrees}
 use Rattle.nano_schema_levels.proofs.MapLayersLaws.{follows_order, ordered_map_layer}
 use Rattle.nano_schema_levels.proofs.PartLaws.{seen_layer, single_layer}
 use Rattle.nano_schema_levels.proofs.VariantLayersLaws.{choice_layer, last_variant, next_unit, next_variant}
@@ -27,7 +27,7 @@ use Rattle.test_nested_derived_ron.specs.declared.setting.Setting.TheOpen.{Setti
 use Rattle.test_nested_derived_ron.specs.declared.setting.Setting.TheViews.{out-Setting}
 use Rattle.test_nested_derived_ron.specs.declared.setting.Setting.TheFolds.{map-Setting, fold_out-Setting}
 use Rattle.test_nested_derived_ron.specs.SettingCodecs.{SettingContent, setting_opened, setting_view, setting_means, setting_means_step}
-use Rattle.test_nested_derived_ron.specs.SettingCodecs.{setting_depth, setting_depth_step, setting_map_means}
+use Rattle.test_nested_derived_ron.specs.SettingCodecs.{setting_depth, setting_depth_step}
 use Rattle.test_nested_derived_ron.specs.SettingCodecs.{setting_step, setting_nested, setting_codec}
 
 -- ==== Setting: the layer around the values in it
@@ -50,9 +50,9 @@ setting_json_means_opened Setting-F.Unset = refl
 setting_json_means_opened (Setting-F.Text v) = refl
 setting_json_means_opened (Setting-F.Counts v) = refl
 setting_json_means_opened (Setting-F.Table v) =
-    ap (λ m. tagged 3 m) (setting_map_means string_cmp (λ x. text (string_bytes x)) (λ x. x) _ setting_means (λ x. refl) v.entries)
+    ap (λ m. tagged 3 m) (map_means string_cmp (λ x. text (string_bytes x)) (λ x. x) _ setting_means (λ x. refl) v.entries)
 setting_json_means_opened (Setting-F.Lists v) =
-    ap (λ m. tagged 4 m) (setting_map_means nat_cmp whole (λ x. listed x.items) _ (λ x. listed (map setting_means x.items)) (λ x. refl) v.entries)
+    ap (λ m. tagged 4 m) (map_means nat_cmp whole (λ x. listed x.items) _ (λ x. listed (map setting_means x.items)) (λ x. refl) v.entries)
 
 pub setting_json_depth_opened : (y : Setting-F Setting)
     → setting_depth_step (map-Setting Setting ℕ setting_depth y)
@@ -79,11 +79,12 @@ setting_json_nested = record {
 abbrev pub setting_json_at : ℕ → Codec Setting
 setting_json_at = level setting_json_nested
 
--- those that are read
-abbrev pub setting_json : Codec Setting
-setting_json = limited setting_json_nested 128
-
-pub setting_json_agrees : Agrees setting_means setting_codec.encoding.legal setting_means setting_json.encoding.legal
+pub setting_json_agrees : Agrees setting_means setting_codec.encoding.legal setting_means
+    (limited setting_json_nested 128).encoding.legal
 setting_json_agrees =
     agree_through (bin_agrees setting_nested setting_step (λ f. refl))
     (nested_agrees setting_json_nested setting_step (λ f. refl) 128)
+
+-- those that are read, and what is legal in the words of the format before
+abbrev pub setting_json : Codec Setting
+setting_json = legal_as (limited setting_json_nested 128) setting_json_agrees

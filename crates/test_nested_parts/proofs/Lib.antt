@@ -4,3 +4,9 @@ mod SceneRonCodecsLaws
 mod QuestCodecsLaws
 mod QuestJsonCodecsLaws
 mod QuestRonCodecsLaws
+mod PlanCodecsLaws
+mod PlanJsonCodecsLaws
+mod PlanRonCodecsLaws
+mod CampCodecsLaws
+mod CampJsonCodecsLaws
+mod CampRonCodecsLaws

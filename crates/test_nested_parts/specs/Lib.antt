@@ -4,3 +4,9 @@ pub mod SceneRonCodecs
 pub mod QuestCodecs
 pub mod QuestJsonCodecs
 pub mod QuestRonCodecs
+pub mod PlanCodecs
+pub mod PlanJsonCodecs
+pub mod PlanRonCodecs
+pub mod CampCodecs
+pub mod CampJsonCodecs
+pub mod CampRonCodecs

@@ -1,17 +1,17 @@
 -- Written by derive_files: types that contain themselves, and their codecs.
-use Rattle.std.specs.Prelude.{◌≡◌, ℕ, max, refl, codes, Option, String, Vec, string_cmp}
+use Rattle.std.specs.Prelude.{◌≡◌, ℕ, refl, codes, Option, String, Vec, string_cmp}
 use Rattle.std.specs.BTreeMap.{BTreeMap}
 use Rattle.std.specs.Global.{Global}
-use Rattle.std.proofs.Common.{◌∙◌, arith}
+use Rattle.std.proofs.Common.{◌∙◌}
 use Rattle.nano_value.specs.Meaning.{Meaning, Agrees}
 use Rattle.nano_meaning.proofs.OrderLaws.{texts}
-use Rattle.nano_schema_levels.proofs.StepsLaws.{list_depth, pair_depth}
+use Rattle.nano_schema_levels.proofs.StepsLaws.{later_depth, list_depth, pair_depth}
 use Rattle.nano_levels.specs.Layers.{Layer, Nested}
 use Rattle.nano_levels.proofs.LayersLaws.{itself_layer, list_layer, other_layer}
 use Rattle.nano_levels.proofs.LevelsLaws.{level, limited}
 use Rattle.nano_schema_levels.specs.VariantLayers.{VariantsLayer}
 use Rattle.nano_schema_levels.proofs.FieldLayersLaws.{fields_pair_layer, other_fields, required_layer, struct_layer}
-use Rattle.nano_schema_levels.proofs.LegalLevelsLaws.{agree_through, nested_agrees}
+use Rattle.nano_schema_levels.proofs.LegalLevelsLaws.{agree_through, legal_as, nested_agrees}
 use Rattle.nano_schema_levels.proofs.PartLaws.{pair_layer, seen_layer, single_layer}
 use Rattle.nano_schema_levels.proofs.VariantLayersLaws.{choice_layer, last_variant, next_variant}
 use Rattle.nano_bin_nested.proofs.LegalLaws.{nested_agrees as bin_agrees}
@@ -57,10 +57,6 @@ quest_json_variants =
 abbrev pub quest_json_layer : Layer json json_grammar Quest (QuestContent Quest)
 quest_json_layer = choice_layer quest_json_variants (λ f. refl) (λ f. refl)
 
--- what holds no values of the type before what does
-pub quest_json_later_depth : {a b : ℕ} → a ≡ b → a ≡ max 0 b
-quest_json_later_depth e = omega (arith, e)
-
 pub quest_json_means_opened : (y : Quest-F Quest)
     → quest_means_step (map-Quest Quest Meaning quest_means y)
     ≡ quest_json_layer.means quest_means (quest_opened y)
@@ -73,7 +69,7 @@ pub quest_json_depth_opened : (y : Quest-F Quest)
     → quest_depth_step (map-Quest Quest ℕ quest_depth y)
     ≡ quest_json_layer.deep quest_depth (quest_opened y)
 quest_json_depth_opened (Quest-F.Win v) = refl
-quest_json_depth_opened (Quest-F.Bring v0 v1) = quest_json_later_depth refl
+quest_json_depth_opened (Quest-F.Bring v0 v1) = later_depth refl
 quest_json_depth_opened (Quest-F.All v0 v1 v2) =
     pair_depth (list_depth _ _ _ (λ x. refl) v0.items) refl
 quest_json_depth_opened (Quest-F.Find v) = refl
@@ -93,11 +89,12 @@ quest_json_nested = record {
 abbrev pub quest_json_at : ℕ → Codec Quest
 quest_json_at = level quest_json_nested
 
--- those that are read
-abbrev pub quest_json : Codec Quest
-quest_json = limited quest_json_nested 128
-
-pub quest_json_agrees : Agrees quest_means quest_codec.encoding.legal quest_means quest_json.encoding.legal
+pub quest_json_agrees : Agrees quest_means quest_codec.encoding.legal quest_means
+    (limited quest_json_nested 128).encoding.legal
 quest_json_agrees =
     agree_through (bin_agrees quest_nested quest_step (λ f. refl))
     (nested_agrees quest_json_nested quest_step (λ f. refl) 128)
+
+-- those that are read, and what is legal in the words of the format before
+abbrev pub quest_json : Codec Quest
+quest_json = legal_as (limited quest_json_nested 128) quest_json_agrees

@@ -1,17 +1,17 @@
 -- Written by derive_files: types that contain themselves, and their codecs.
-use Rattle.std.specs.Prelude.{◌≡◌, ℕ, List, max, refl, codes, Option, String, Vec, string_cmp}
+use Rattle.std.specs.Prelude.{◌≡◌, ℕ, List, refl, codes, Option, String, Vec, string_cmp}
 use Rattle.std.specs.BTreeMap.{BTreeMap}
 use Rattle.std.specs.Global.{Global}
-use Rattle.std.proofs.Common.{◌∙◌, arith}
+use Rattle.std.proofs.Common.{◌∙◌}
 use Rattle.nano_value.specs.Meaning.{Meaning, Agrees}
 use Rattle.nano_meaning.proofs.OrderLaws.{texts}
-use Rattle.nano_schema_levels.proofs.StepsLaws.{list_depth, pair_depth}
+use Rattle.nano_schema_levels.proofs.StepsLaws.{later_depth, list_depth, pair_depth}
 use Rattle.nano_levels.specs.Layers.{Layer, Nested}
 use Rattle.nano_levels.proofs.LayersLaws.{itself_layer, list_layer, other_layer}
 use Rattle.nano_levels.proofs.LevelsLaws.{level, limited}
 use Rattle.nano_schema_levels.specs.VariantLayers.{VariantsLayer}
 use Rattle.nano_schema_levels.proofs.FieldLayersLaws.{fields_pair_layer, other_fields, required_layer, struct_layer}
-use Rattle.nano_schema_levels.proofs.LegalLevelsLaws.{agree_through, nested_agrees}
+use Rattle.nano_schema_levels.proofs.LegalLevelsLaws.{agree_through, legal_as, nested_agrees}
 use Rattle.nano_schema_levels.proofs.PartLaws.{pair_layer, seen_layer, single_layer}
 use Rattle.nano_schema_levels.proofs.VariantLayersLaws.{choice_layer, last_variant, next_variant}
 use Rattle.nano_bin_nested.proofs.LegalLaws.{nested_agrees as bin_agrees}
@@ -60,10 +60,6 @@ quest_ron_variants =
 abbrev pub quest_ron_layer : Layer ron ron_grammar Quest (QuestContent Quest)
 quest_ron_layer = choice_layer quest_ron_variants (λ f. refl) (λ f. refl)
 
--- what holds no values of the type before what does
-pub quest_ron_later_depth : {a b : ℕ} → a ≡ b → a ≡ max 0 b
-quest_ron_later_depth e = omega (arith, e)
-
 pub quest_ron_means_opened : (y : Quest-F Quest)
     → quest_means_step (map-Quest Quest Meaning quest_means y)
     ≡ quest_ron_layer.means quest_means (quest_opened y)
@@ -76,7 +72,7 @@ pub quest_ron_depth_opened : (y : Quest-F Quest)
     → quest_depth_step (map-Quest Quest ℕ quest_depth y)
     ≡ quest_ron_layer.deep quest_depth (quest_opened y)
 quest_ron_depth_opened (Quest-F.Win v) = refl
-quest_ron_depth_opened (Quest-F.Bring v0 v1) = quest_ron_later_depth refl
+quest_ron_depth_opened (Quest-F.Bring v0 v1) = later_depth refl
 quest_ron_depth_opened (Quest-F.All v0 v1 v2) =
     pair_depth (list_depth _ _ _ (λ x. refl) v0.items) refl
 quest_ron_depth_opened (Quest-F.Find v) = refl
@@ -96,16 +92,17 @@ quest_ron_nested = record {
 abbrev pub quest_ron_at : ℕ → Codec Quest
 quest_ron_at = level quest_ron_nested
 
--- those that are read
+pub quest_ron_agrees : Agrees quest_means quest_codec.encoding.legal quest_means
+    (limited quest_ron_nested 128).encoding.legal
+quest_ron_agrees =
+    agree_through (bin_agrees quest_nested quest_step (λ f. refl))
+    (nested_agrees quest_ron_nested quest_step (λ f. refl) 128)
+
+-- those that are read, and what is legal in the words of the format before
 abbrev pub quest_ron : Codec Quest
-quest_ron = limited quest_ron_nested 128
+quest_ron = legal_as (limited quest_ron_nested 128) quest_ron_agrees
 
 -- a value of `All` as it is written
 abbrev pub quest_ron_of_all : ℕ → Vec Quest Global → Vec Mode Global → Option Mode → List ℕ
 quest_ron_of_all d v0 v1 v2 =
     content_text (codes "All") ((quest_ron_content_all.codec quest_ron).canonical.text d (v0, (v1, v2)))
-
-pub quest_ron_agrees : Agrees quest_means quest_codec.encoding.legal quest_means quest_ron.encoding.legal
-quest_ron_agrees =
-    agree_through (bin_agrees quest_nested quest_step (λ f. refl))
-    (nested_agrees quest_ron_nested quest_step (λ f. refl) 128)

@@ -1,14 +1,14 @@
 -- Written by derive_files: types that contain themselves, and their codecs.
-use Rattle.std.specs.Prelude.{◌≡◌, ℕ, max, refl, codes}
-use Rattle.std.proofs.Common.{◌∙◌, arith}
+use Rattle.std.specs.Prelude.{◌≡◌, ℕ, refl, codes}
+use Rattle.std.proofs.Common.{◌∙◌}
 use Rattle.nano_value.specs.Meaning.{Meaning, Agrees}
-use Rattle.nano_schema_levels.proofs.StepsLaws.{list_depth}
+use Rattle.nano_schema_levels.proofs.StepsLaws.{later_depth, list_depth}
 use Rattle.nano_levels.specs.Layers.{Layer, Nested}
 use Rattle.nano_levels.proofs.LayersLaws.{itself_layer, list_layer}
 use Rattle.nano_levels.proofs.LevelsLaws.{level, limited}
 use Rattle.nano_schema_levels.specs.FieldLayers.{FieldsLayer}
 use Rattle.nano_schema_levels.proofs.FieldLayersLaws.{fields_pair_layer, other_fields, required_layer, struct_layer}
-use Rattle.nano_schema_levels.proofs.LegalLevelsLaws.{agree_through, nested_agrees}
+use Rattle.nano_schema_levels.proofs.LegalLevelsLaws.{agree_through, legal_as, nested_agrees}
 use Rattle.nano_schema_levels.proofs.PartLaws.{seen_layer}
 use Rattle.nano_bin_nested.proofs.LegalLaws.{nested_agrees as bin_agrees}
 use Rattle.nano_json.specs.Codec.{Codec}
@@ -38,10 +38,6 @@ scene_json_fields =
 abbrev pub scene_json_layer : Layer json json_grammar Scene (SceneContent Scene)
 scene_json_layer = struct_layer scene_json_fields (λ f. ascii_names refl) (λ f. refl)
 
--- what holds no values of the type before what does
-pub scene_json_later_depth : {a b : ℕ} → a ≡ b → a ≡ max 0 b
-scene_json_later_depth e = omega (arith, e)
-
 pub scene_json_means_opened : (y : Scene-F Scene)
     → scene_means_step (map-Scene Scene Meaning scene_means y)
     ≡ scene_json_layer.means scene_means (scene_opened y)
@@ -50,7 +46,7 @@ scene_json_means_opened y = refl
 pub scene_json_depth_opened : (y : Scene-F Scene)
     → scene_depth_step (map-Scene Scene ℕ scene_depth y)
     ≡ scene_json_layer.deep scene_depth (scene_opened y)
-scene_json_depth_opened y = scene_json_later_depth (list_depth _ _ _ (λ x. refl) y.scenes.items)
+scene_json_depth_opened y = later_depth (list_depth _ _ _ (λ x. refl) y.scenes.items)
 
 abbrev pub scene_json_nested : Nested json json_grammar Scene
 scene_json_nested = record {
@@ -67,11 +63,12 @@ scene_json_nested = record {
 abbrev pub scene_json_at : ℕ → Codec Scene
 scene_json_at = level scene_json_nested
 
--- those that are read
-abbrev pub scene_json : Codec Scene
-scene_json = limited scene_json_nested 128
-
-pub scene_json_agrees : Agrees scene_means scene_codec.encoding.legal scene_means scene_json.encoding.legal
+pub scene_json_agrees : Agrees scene_means scene_codec.encoding.legal scene_means
+    (limited scene_json_nested 128).encoding.legal
 scene_json_agrees =
     agree_through (bin_agrees scene_nested scene_step (λ f. refl))
     (nested_agrees scene_json_nested scene_step (λ f. refl) 128)
+
+-- those that are read, and what is legal in the words of the format before
+abbrev pub scene_json : Codec Scene
+scene_json = legal_as (limited scene_json_nested 128) scene_json_agrees

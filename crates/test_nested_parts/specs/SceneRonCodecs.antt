@@ -1,14 +1,14 @@
 -- Written by derive_files: types that contain themselves, and their codecs.
-use Rattle.std.specs.Prelude.{◌≡◌, ℕ, max, refl, codes}
-use Rattle.std.proofs.Common.{◌∙◌, arith}
+use Rattle.std.specs.Prelude.{◌≡◌, ℕ, refl, codes}
+use Rattle.std.proofs.Common.{◌∙◌}
 use Rattle.nano_value.specs.Meaning.{Meaning, Agrees}
-use Rattle.nano_schema_levels.proofs.StepsLaws.{list_depth}
+use Rattle.nano_schema_levels.proofs.StepsLaws.{later_depth, list_depth}
 use Rattle.nano_levels.specs.Layers.{Layer, Nested}
 use Rattle.nano_levels.proofs.LayersLaws.{itself_layer, list_layer}
 use Rattle.nano_levels.proofs.LevelsLaws.{level, limited}
 use Rattle.nano_schema_levels.specs.FieldLayers.{FieldsLayer}
 use Rattle.nano_schema_levels.proofs.FieldLayersLaws.{fields_pair_layer, other_fields, required_layer, struct_layer}
-use Rattle.nano_schema_levels.proofs.LegalLevelsLaws.{agree_through, nested_agrees}
+use Rattle.nano_schema_levels.proofs.LegalLevelsLaws.{agree_through, legal_as, nested_agrees}
 use Rattle.nano_schema_levels.proofs.PartLaws.{seen_layer}
 use Rattle.nano_bin_nested.proofs.LegalLaws.{nested_agrees as bin_agrees}
 use Rattle.nano_ron.specs.Codec.{Codec}
@@ -39,10 +39,6 @@ scene_ron_fields =
 abbrev pub scene_ron_layer : Layer ron ron_grammar Scene (SceneContent Scene)
 scene_ron_layer = struct_layer scene_ron_fields (λ f. word_names refl) (λ f. refl)
 
--- what holds no values of the type before what does
-pub scene_ron_later_depth : {a b : ℕ} → a ≡ b → a ≡ max 0 b
-scene_ron_later_depth e = omega (arith, e)
-
 pub scene_ron_means_opened : (y : Scene-F Scene)
     → scene_means_step (map-Scene Scene Meaning scene_means y)
     ≡ scene_ron_layer.means scene_means (scene_opened y)
@@ -51,7 +47,7 @@ scene_ron_means_opened y = refl
 pub scene_ron_depth_opened : (y : Scene-F Scene)
     → scene_depth_step (map-Scene Scene ℕ scene_depth y)
     ≡ scene_ron_layer.deep scene_depth (scene_opened y)
-scene_ron_depth_opened y = scene_ron_later_depth (list_depth _ _ _ (λ x. refl) y.scenes.items)
+scene_ron_depth_opened y = later_depth (list_depth _ _ _ (λ x. refl) y.scenes.items)
 
 abbrev pub scene_ron_nested : Nested ron ron_grammar Scene
 scene_ron_nested = record {
@@ -68,11 +64,12 @@ scene_ron_nested = record {
 abbrev pub scene_ron_at : ℕ → Codec Scene
 scene_ron_at = level scene_ron_nested
 
--- those that are read
-abbrev pub scene_ron : Codec Scene
-scene_ron = limited scene_ron_nested 128
-
-pub scene_ron_agrees : Agrees scene_means scene_codec.encoding.legal scene_means scene_ron.encoding.legal
+pub scene_ron_agrees : Agrees scene_means scene_codec.encoding.legal scene_means
+    (limited scene_ron_nested 128).encoding.legal
 scene_ron_agrees =
     agree_through (bin_agrees scene_nested scene_step (λ f. refl))
     (nested_agrees scene_ron_nested scene_step (λ f. refl) 128)
+
+-- those that are read, and what is legal in the words of the format before
+abbrev pub scene_ron : Codec Scene
+scene_ron = legal_as (limited scene_ron_nested 128) scene_ron_agrees

@@ -1,6 +1,6 @@
-//! Scenes and quests in each format.
+//! Each type in each format.
 
-use crate::{Mode, Quest, Scene};
+use crate::{Camp, Mode, Plan, Quest, Route, Scene, Story};
 use nano_bin_schema::{DeBin, SerBin};
 use nano_json_schema::{DeJson, SerJson};
 use nano_ron_schema::{DeRon, SerRon};
@@ -42,6 +42,68 @@ const QUEST_RON: &str = "All(
 const BRING: &str = r#"{"Bring":[{"name":"rope","count":2},{"Win":["Easy"]}]}"#;
 
 const FIND: &str = r#"{"Find":[{"a":{"name":"oil"},"b":{"name":"rope","count":0}}]}"#;
+
+const CAMP: &[u8] = &[
+    0, 0, 1, 0, 0, 0, 0, 0, 0, 0, 1, 0, 3, 0, 0, 0, 0, 0, 0, 0, 0,
+];
+
+const CAMP_JSON: &str = r#"{"weather":"Dry","camps":[{"weather":{"Rain":[3]},"camps":[]}]}"#;
+
+const CAMP_RON: &str = "(
+    weather:Dry,
+    camps:[
+        (
+            weather:Rain(3),
+            camps:[
+            ],
+        ),
+    ],
+)";
+
+const ROUTE: &[u8] = &[1, 0, 1, 0, 9, 0, 0];
+
+const ROUTE_JSON: &str = r#"{"Step":{"weather":{"Rain":[9]},"rest":"End"}}"#;
+
+const ROUTE_RON: &str = "Step(
+    weather:Rain(9),
+    rest:End,
+)";
+
+const PLAN: &[u8] = &[1, 0, 0, 0, 0, 0, 0, 0, 0, 0, 0, 0, 0, 0];
+
+const PLAN_JSON: &str = r#"{"Go":[{"mode":"Easy","scenes":[]},"End"]}"#;
+
+const PLAN_RON: &str = "Choose(
+    at:(
+        mode:Easy,
+        scenes:[
+        ],
+    ),
+    plans:[
+        End,
+    ],
+)";
+
+const STORY_JSON: &str =
+    r#"{"title":"a","first":{"mode":"Easy","scenes":[]},"quests":[],"scenes":{"b":{"mode":{"Hard":[1]},"scenes":[]}},"ending":{"Won":[{"Win":["Easy"]},null]}}"#;
+
+const STORY_RON: &str = "(
+    title:\"a\",
+    first:(
+        mode:Easy,
+        scenes:[
+        ],
+    ),
+    quests:[
+        Win(Easy),
+    ],
+    scenes:{
+    },
+    ending:OneOf(
+        scenes:[
+        ],
+    ),
+)";
 
 /// Stops where a condition does not hold.
 fn holds(rt: &impl Abort, condition: bool, what: &str) {
@@ -114,6 +176,27 @@ fn quests_are_read_and_written_back(rt: HostRuntime) {
     holds(&rt, is_ron::<Quest>(alloc, QUEST_RON), "RON");
     holds(&rt, is_json::<Quest>(alloc, BRING), "an item");
     holds(&rt, is_json::<Quest>(alloc, FIND), "a map of items");
+}
+
+#[test]
+fn camps_and_routes_are_read_and_written_back(rt: HostRuntime) {
+    let alloc = rt.alloc();
+    holds(&rt, is_code::<Camp>(alloc, CAMP), "bytes");
+    holds(&rt, is_json::<Camp>(alloc, CAMP_JSON), "JSON");
+    holds(&rt, is_ron::<Camp>(alloc, CAMP_RON), "RON");
+    holds(&rt, is_code::<Route>(alloc, ROUTE), "bytes of a route");
+    holds(&rt, is_json::<Route>(alloc, ROUTE_JSON), "JSON of a route");
+    holds(&rt, is_ron::<Route>(alloc, ROUTE_RON), "RON of a route");
+}
+
+#[test]
+fn plans_and_stories_are_read_and_written_back(rt: HostRuntime) {
+    let alloc = rt.alloc();
+    holds(&rt, is_code::<Plan>(alloc, PLAN), "bytes");
+    holds(&rt, is_json::<Plan>(alloc, PLAN_JSON), "JSON");
+    holds(&rt, is_ron::<Plan>(alloc, PLAN_RON), "RON");
+    holds(&rt, is_json::<Story>(alloc, STORY_JSON), "JSON of a story");
+    holds(&rt, is_ron::<Story>(alloc, STORY_RON), "RON of a story");
 }
 
 #[test]

@@ -1,6 +1,7 @@
 //! Types that contain themselves, and types that contain each other.
 
 use crate::check::defaults::is_number;
+use crate::check::known::is_defined;
 use crate::check::nested_json::check_nested_json;
 use crate::fault::Fault;
 use crate::nested::{Core, nested_part};
@@ -28,7 +29,11 @@ const NO_LIMIT: &str = "is no number of levels: that is one from 1 to 128";
 
 const NO_MODULE: &str =
     "is another user-defined type in one that contains itself: it is defined in \
-    a file of its own, and a line `use crate::module::Type;` names that file's module and the type";
+    this file, or a line `use crate::module::Type;` names the module of its file and the type";
+
+const NO_FILE: &str = "contains itself, or has a part that does, and stands in another type that \
+    contains itself: it is defined in a file of its own, and a line `use crate::module::Type;` names \
+    that file's module and the type";
 
 const NO_WORD: &str = "stands in a type that contains itself: above its fields and variants is no \
     attribute but `rename`";
@@ -134,7 +139,7 @@ fn check_parts<'a>(
     Ok(())
 }
 
-/// An error at a part that is not written, or at another type whose module no line says.
+/// An error at a part that is not written, or at another type that has no impls to cite.
 fn check_part<'a>(
     alloc: Global,
     source: &Source<'a>,
@@ -145,12 +150,26 @@ fn check_part<'a>(
     let Core::Other(other) = part.core else {
         return Ok(());
     };
-    if source.module_of_type(alloc, other)?.is_some() {
-        return Ok(());
-    }
     for token in of.0 {
         if token.text == other {
-            return Err(token.fault(NO_MODULE));
+            return check_other(alloc, source, *token);
+        }
+    }
+    Ok(())
+}
+
+/// An error at another type that no type of the file is and no line brings in, or that is one of the
+/// file and leads to one that contains itself.
+fn check_other<'a>(alloc: Global, source: &Source<'a>, other: Token<'a>) -> Result<(), Fault> {
+    if !is_defined(source, other) {
+        return match source.module_of_type(alloc, other.text)? {
+            Some(_module) => Ok(()),
+            None => Err(other.fault(NO_MODULE)),
+        };
+    }
+    for definition in &source.definitions {
+        if definition.contains_itself() && leads_to(alloc, source, other, definition.name)? {
+            return Err(other.fault(NO_FILE));
         }
     }
     Ok(())

@@ -11,8 +11,7 @@ use crate::output::nested_writes::{write_arms, write_fields};
 use derive_impls::layout::{Brackets, Items, Piece, list};
 use derive_impls::sheet::Sheet;
 use derive_impls::target::Target;
-use derive_impls::template::Holes;
-use derive_syntax::{Case, Definition, Fault, Field, Shape, Variant};
+use derive_syntax::{Case, Definition, Fault, Field, Holes, Shape, Variant};
 use std::alloc::{AllocError, Global};
 
 /// What differs between structs and enums.
@@ -185,10 +184,10 @@ fn append_impls<'a>(
     let mut holes = nested_holes(sheet, target)?;
     put_laws(&mut holes, alloc, target, kind.is_enum)?;
     put_codec(&mut holes, alloc, target)?;
-    holes.put("SCHEMA", sheet.short(kind.schema)?.as_str())?;
-    holes.put("HELD", row.values.as_str())?;
-    holes.put("MAKING", row.making.as_str())?;
-    holes.put("KNOWN", known.as_str())?;
+    holes.put("SCHEMA", sheet.short(kind.schema)?.as_str());
+    holes.put("HELD", row.values.as_str());
+    holes.put("MAKING", row.making.as_str());
+    holes.put("KNOWN", known.as_str());
     sheet.write(SCHEMA, &holes)?;
     if target.attributes.bin.is_used() {
         append_bytes(sheet, target, kind, holes, write)?;
@@ -208,10 +207,10 @@ fn append_bytes<'a>(
     sheet.import("ghost use Rattle.nano_schema.specs.UserTypes.{agreed};")?;
     let alloc = sheet.alloc;
     let name = Case::Snake.of_variant(alloc, target.name.text)?;
-    holes.put("CALL", reading(sheet, target, kind)?.as_str())?;
-    holes.put("BIN", format!(in alloc; "{name}_codec")?.as_str())?;
-    holes.put("LEVELS", levels_of(alloc, target)?.as_str())?;
-    holes.put("WRITE", write.as_str())?;
+    holes.put("CALL", reading(sheet, target, kind)?.as_str());
+    holes.put("BIN", format!(in alloc; "{name}_codec")?.as_str());
+    holes.put("LEVELS", levels_of(alloc, target)?.as_str());
+    holes.put("WRITE", write.as_str());
     sheet.write(BYTES, &holes)
 }
 

@@ -1,5 +1,5 @@
-//! Types that contain themselves, in JSON: what writes them variant by variant or field by field, and
-//! what reads them within levels.
+//! Types that contain themselves, in JSON: what writes them variant by variant or field by field,
+//! and what reads them within levels.
 
 use crate::output::nested_json_contents::append_contents;
 use crate::output::nested_json_variants::{arms, json_variants};
@@ -14,11 +14,11 @@ pub(crate) const CODEC: &str = "
 // ---- JSON
 
 impl nano_json_schema::JsonCodec for $TYPE {
-    ghost use Rattle.$TEXTS.{$CITED};
+    ghost use Rattle.$TEXTS.{$OWN};
 
     ghost json = { $OWN };
 
-    ghost agrees = { $AGREES };
+    ghost agrees = { agreed };
 }
 
 impl nano_json_nested::NestedJson for $TYPE {
@@ -40,23 +40,31 @@ $ARMS        }
     }
 }";
 
+// A line outside an impl would bring the definitions of this type into the impls of the other types
+// of the file, which these definitions may cite. So what cites them stands in an impl.
 pub(crate) const RECORD: &str = "
-ghost use Rattle.$TEXTS.{$OWN};
+/// What writes `$TYPE` as JSON.
+struct $WRITER {}
 
-/// Appends the fields between braces. If the write fails, what was written so far is left.
-#[cycle($CYCLE)]
-fn $APPEND(
-    value: &$TYPE,
-    alloc: std::alloc::Global,
-    d: usize,
-    s: &mut nano_json_schema::SerJsonState,
-) -> Result<(), std::alloc::AllocError>
-    ensures ok { OnOk result (Appends s.old.out s.new.out ($OWN.canonical.text d value.now)) }
-    ensures err { OnErr result (AppendsPart s.old.out s.new.out) }
-{
-    s.st_pre()?;
-    let inner = d.saturating_add(1);
-$FIELDS    s.st_post(d)
+impl $WRITER {
+    ghost use Rattle.$TEXTS.{$OWN};
+
+    /// Appends the fields between braces. If the write fails, what was written so far is left.
+    #[cycle($CYCLE)]
+    fn append_record(
+        value: &$TYPE,
+        alloc: std::alloc::Global,
+        d: usize,
+        s: &mut nano_json_schema::SerJsonState,
+    ) -> Result<(), std::alloc::AllocError>
+        ensures ok { OnOk result
+            (Appends s.old.out s.new.out ($OWN.canonical.text d value.now)) }
+        ensures err { OnErr result (AppendsPart s.old.out s.new.out) }
+    {
+        s.st_pre()?;
+        let inner = d.saturating_add(1);
+$FIELDS        s.st_post(d)
+    }
 }
 
 impl nano_json_nested::WritesJson for $TYPE {
@@ -64,7 +72,7 @@ impl nano_json_nested::WritesJson for $TYPE {
     fn write_json(&self, alloc: std::alloc::Global, d: usize, \
         s: &mut nano_json_schema::SerJsonState) -> Result<(), std::alloc::AllocError> {
         let start = s.out.len();
-        let written = $APPEND(self, alloc, d, s);
+        let written = $WRITER::append_record(self, alloc, d, s);
         nano_json_nested::rollback_on_error(&mut s.out, start, written)
     }
 }";
@@ -118,14 +126,14 @@ pub(crate) fn append_json_choice<'a>(
     sheet.write(CODEC, &holes)?;
     let full = json_variants(sheet, target, variants, &row.leaves)?;
     let call = reading(sheet, JSON, (full.as_str(), "choice"))?;
-    holes.put("CALL", call.as_str())?;
+    holes.put("CALL", call.as_str());
     let around = if append_contents(sheet, target, variants, &row.contents)? {
         format!(in alloc; "    #[cycle({})]\n", cycle_of(alloc, target)?)?
     } else {
         String::new(alloc)
     };
-    holes.put("AROUND", around.as_str())?;
-    holes.put("ARMS", arms(sheet, target, variants, JSON)?.as_str())?;
+    holes.put("AROUND", around.as_str());
+    holes.put("ARMS", arms(sheet, target, variants, JSON)?.as_str());
     sheet.write(CHOICE, &holes)?;
     sheet.write(READER, &holes)
 }
@@ -138,15 +146,11 @@ pub(crate) fn append_json_record<'a>(
 ) -> Result<(), AllocError> {
     import_outcomes(sheet)?;
     let alloc = sheet.alloc;
-    let name = Case::Snake.of_variant(alloc, target.name.text)?;
-    let wanted = format!(in alloc; "append_{name}_json")?;
-    let append = sheet.names.take(alloc, wanted.as_str())?;
     let mut holes = text_holes(sheet, target, JSON)?;
     let call = reading(sheet, JSON, (target.row.as_str(), "record"))?;
-    holes.put("CALL", call.as_str())?;
-    holes.put("APPEND", append.as_str())?;
-    holes.put("CYCLE", cycle_of(alloc, target)?.as_str())?;
-    holes.put("FIELDS", fields)?;
+    holes.put("CALL", call.as_str());
+    holes.put("CYCLE", cycle_of(alloc, target)?.as_str());
+    holes.put("FIELDS", fields);
     sheet.write(CODEC, &holes)?;
     sheet.write(RECORD, &holes)?;
     sheet.write(READER, &holes)

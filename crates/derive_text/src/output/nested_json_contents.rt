@@ -3,60 +3,62 @@
 use crate::output::nested_json::{cycle_of, import_outcomes};
 use crate::output::nested_json_fields::json_fields;
 use crate::output::nested_names::{put_variant, specs_of};
+use crate::output::nested_text::{JSON, TextNames, writer_of};
 use derive_impls::layout::Items;
 use derive_impls::rows::{Leaf, paired};
 use derive_impls::sheet::Sheet;
 use derive_impls::target::Target;
-use derive_impls::template::Holes;
 use derive_impls::types::type_text;
 use derive_impls::variants::bracketed;
-use derive_syntax::{Case, Content, Field, Variant, variant_name};
+use derive_syntax::{Case, Content, Field, Holes, Variant, variant_name};
 use std::alloc::{AllocError, Global};
 
 const CONTENT: &str = "
-$BROUGHTghost use Rattle.$TEXTS.{$JSON, $CONTENT};
+impl $WRITER {
+$BROUGHT    ghost use Rattle.$TEXTS.{$JSON, $CONTENT};
 
-/// Appends the fields of `$NAME` between braces. If the write fails, what was written so far is left.
-#[cycle($CYCLE)]
-$INNER
-    requires { value.now ≡ $WHOLE }
-    ensures ok { OnOk result (Appends s.old.out s.new.out
-        (($CONTENT.codec $JSON).canonical.text d $VALUE)) }
-    ensures err { OnErr result (AppendsPart s.old.out s.new.out) }
-{
-    s.st_pre()?;
-    let inner = d.saturating_add(1);
-$FIELDS    s.st_post(d)
-}
+    /// Appends the fields of `$NAME`. If the write fails, what was written so far is left.
+    #[cycle($CYCLE)]
+    $INNER
+        requires { value.now ≡ $WHOLE }
+        ensures ok { OnOk result (Appends s.old.out s.new.out
+            (($CONTENT.codec $JSON).canonical.text d $VALUE)) }
+        ensures err { OnErr result (AppendsPart s.old.out s.new.out) }
+    {
+        s.st_pre()?;
+        let inner = d.saturating_add(1);
+$FIELDS        s.st_post(d)
+    }
 
-/// Appends `$NAME` with its fields. If the write fails, what was written so far is left.
-#[cycle($CYCLE)]
-$MIDDLE
-    requires { value.now ≡ $WHOLE }
-    ensures ok { OnOk result (Appends s.old.out s.new.out
-        (content_text (codes \"$KEY\")
-        (($CONTENT.codec $JSON).canonical.text d $VALUE))) }
-    ensures err { OnErr result (AppendsPart s.old.out s.new.out) }
-{
-    s.st_pre()?;
-    \"$KEY\".ser_json(alloc, 0, s)?;
-    s.out.push_str(\":\")?;
-    append_$OF_fields(value, $ARGUMENTSalloc, d, s)?;
-    s.st_post(d)
-}
+    /// Appends `$NAME` with its fields. If the write fails, what was written so far is left.
+    #[cycle($CYCLE)]
+    $MIDDLE
+        requires { value.now ≡ $WHOLE }
+        ensures ok { OnOk result (Appends s.old.out s.new.out
+            (content_text (codes \"$KEY\")
+            (($CONTENT.codec $JSON).canonical.text d $VALUE))) }
+        ensures err { OnErr result (AppendsPart s.old.out s.new.out) }
+    {
+        s.st_pre()?;
+        \"$KEY\".ser_json(alloc, 0, s)?;
+        s.out.push_str(\":\")?;
+        Self::append_$OF_fields(value, $ARGUMENTSalloc, d, s)?;
+        s.st_post(d)
+    }
 
-/// Appends `$NAME` with its fields. If the write fails, `s.out` is unchanged.
-#[cycle($CYCLE)]
-$OUTER
-    requires { value.now ≡ $WHOLE }
-    ensures ok { OnOk result (Appends s.old.out s.new.out
-        (content_text (codes \"$KEY\")
-        (($CONTENT.codec $JSON).canonical.text d $VALUE))) }
-    ensures err { OnErr result (Unchanged s.old.out s.new.out) }
-{
-    let start = s.out.len();
-    let written = append_$OF(value, $ARGUMENTSalloc, d, s);
-    nano_json_nested::rollback_on_error(&mut s.out, start, written)
+    /// Appends `$NAME` with its fields. If the write fails, `s.out` is unchanged.
+    #[cycle($CYCLE)]
+    $OUTER
+        requires { value.now ≡ $WHOLE }
+        ensures ok { OnOk result (Appends s.old.out s.new.out
+            (content_text (codes \"$KEY\")
+            (($CONTENT.codec $JSON).canonical.text d $VALUE))) }
+        ensures err { OnErr result (Unchanged s.old.out s.new.out) }
+    {
+        let start = s.out.len();
+        let written = Self::append_$OF(value, $ARGUMENTSalloc, d, s);
+        nano_json_nested::rollback_on_error(&mut s.out, start, written)
+    }
 }";
 
 /// Appends what writes each variant that has named fields, and says whether there is one. Given is
@@ -67,34 +69,38 @@ pub(crate) fn append_contents<'a>(
     variants: &[Variant<'a>],
     contents: &[Vec<Leaf>],
 ) -> Result<bool, AllocError> {
-    let mut is_there = false;
+    let is_there = append_writer(sheet, target, variants, JSON)?;
     for (variant, leaves) in variants.iter().zip(contents) {
         if let Content::Fields(fields) = &variant.content {
             append_content(sheet, target, variant, (fields, leaves))?;
-            is_there = true;
         }
     }
     Ok(is_there)
 }
 
-/// The name of what writes a variant that has named fields.
-pub(crate) fn writer_of<'a>(
-    alloc: Global,
-    target: &Target<'a>,
-    variant: &Variant<'a>,
-) -> Result<String, AllocError> {
-    format!(in alloc; "write_{}", name_of(alloc, target, variant)?)
-}
+const WRITER: &str = "
+/// What writes the variants of `$TYPE` with named fields as $TITLE.
+struct $WRITER {}";
 
-/// The names of a type and of a variant, as those of functions have them.
-fn name_of<'a>(
-    alloc: Global,
+/// Appends what the functions stand in that write variants with named fields in a format, if there
+/// are such, and says whether there are.
+pub(crate) fn append_writer<'a>(
+    sheet: &mut Sheet,
     target: &Target<'a>,
-    variant: &Variant<'a>,
-) -> Result<String, AllocError> {
-    let of = Case::Snake.of_variant(alloc, target.name.text)?;
-    let end = Case::Snake.of_variant(alloc, variant.name.text)?;
-    format!(in alloc; "{of}_{end}")
+    variants: &[Variant<'a>],
+    format: TextNames,
+) -> Result<bool, AllocError> {
+    for variant in variants {
+        if let Content::Fields(_fields) = &variant.content {
+            let writer = writer_of(sheet.alloc, target, format)?;
+            let mut holes = target.holes(sheet.alloc);
+            holes.put("TITLE", format.title);
+            holes.put("WRITER", writer.as_str());
+            sheet.write(WRITER, &holes)?;
+            return Ok(true);
+        }
+    }
+    Ok(false)
 }
 
 /// Appends what writes a variant that has these fields, which stand so in their row.
@@ -110,35 +116,35 @@ fn append_content<'a>(
     sheet.import("ghost use Rattle.nano_json_schema.specs.Variants.{content_text};")?;
     sheet.import("ghost use Rattle.std.specs.Prelude.{◌≡◌};")?;
     let mut holes = value_holes(alloc, fields)?;
-    put_variant(&mut holes, alloc, target, (variant, fields.len(), false))?;
+    put_variant(&mut holes, alloc, target, (variant, fields.len()))?;
     let of = Case::Snake.of_variant(alloc, target.name.text)?;
     let end = Case::Snake.of_variant(alloc, variant.name.text)?;
     let content = format!(in alloc; "{of}_json_content_{end}")?;
     let lines = json_fields(sheet, target.name, fields, (leaves, "v"))?;
-    holes.put("TEXTS", specs_of(alloc, target.module, "Json")?.as_str())?;
-    holes.put("FIELDS", lines.as_str())?;
-    holes.put("JSON", format!(in alloc; "{of}_json")?.as_str())?;
-    holes.put("CONTENT", content.as_str())?;
-    holes.put("NAME", variant.name.text)?;
-    holes.put("KEY", variant_name(alloc, variant, None)?.as_str())?;
-    let of = name_of(alloc, target, variant)?;
-    let inner = format!(in alloc; "append_{of}_fields")?;
-    let middle = format!(in alloc; "append_{of}")?;
-    let outer = writer_of(alloc, target, variant)?;
+    holes.put("TEXTS", specs_of(alloc, target.module, "Json")?.as_str());
+    holes.put("FIELDS", lines.as_str());
+    holes.put("JSON", format!(in alloc; "{of}_json")?.as_str());
+    holes.put("CONTENT", content.as_str());
+    holes.put("NAME", variant.name.text);
+    holes.put("KEY", variant_name(alloc, variant, None)?.as_str());
+    let inner = format!(in alloc; "append_{end}_fields")?;
+    let middle = format!(in alloc; "append_{end}")?;
+    let outer = format!(in alloc; "write_{end}")?;
+    holes.put("WRITER", writer_of(alloc, target, JSON)?.as_str());
     holes.put(
         "INNER",
         head(sheet, target, inner.as_str(), fields)?.as_str(),
-    )?;
+    );
     holes.put(
         "MIDDLE",
         head(sheet, target, middle.as_str(), fields)?.as_str(),
-    )?;
+    );
     holes.put(
         "OUTER",
         head(sheet, target, outer.as_str(), fields)?.as_str(),
-    )?;
-    holes.put("OF", of.as_str())?;
-    holes.put("CYCLE", cycle_of(alloc, target)?.as_str())?;
+    );
+    holes.put("OF", end.as_str());
+    holes.put("CYCLE", cycle_of(alloc, target)?.as_str());
     sheet.write(CONTENT, &holes)
 }
 
@@ -151,11 +157,11 @@ fn value_holes<'a>(alloc: Global, fields: &[Field<'a>]) -> Result<Holes, AllocEr
         values.push(format!(in alloc; "v{i}.now")?)?;
     }
     let mut holes = Holes::new(alloc);
-    holes.put("ARGUMENTS", arguments.as_str())?;
+    holes.put("ARGUMENTS", arguments.as_str());
     holes.put(
         "VALUE",
         paired(alloc, values, Items::Patterns, 4, 4)?.flat.as_str(),
-    )?;
+    );
     Ok(holes)
 }
 
@@ -179,5 +185,5 @@ fn head<'a>(
     let open = format!(in alloc; "fn {name}(")?;
     let close = sheet.short(") -> Result<(), std::alloc::AllocError>")?;
     let brackets = (open.as_str(), close.as_str());
-    Ok(bracketed(alloc, brackets, &parameters, Items::Patterns, (0, 0))?.laid)
+    Ok(bracketed(alloc, brackets, &parameters, Items::Patterns, (4, 4))?.laid)
 }

@@ -32,7 +32,7 @@ pub(crate) fn json_fields<'a>(
             Some(_itself) => within(sheet, field, around)?,
             None => other(sheet, field, leaf, around)?,
         };
-        text.push_str(format!(in sheet.alloc; "    {step}\n")?.as_str())?;
+        text.push_str(format!(in sheet.alloc; "        {step}\n")?.as_str())?;
     }
     Ok(text)
 }
@@ -97,8 +97,8 @@ fn call(sheet: &mut Sheet, open: &str, arguments: &[&str]) -> Result<String, All
         open: open.as_str(),
         close: ")?;",
         items: Items::Values,
-        indent: 4,
-        before: 4,
+        indent: 8,
+        before: 8,
         after: 0,
     };
     Ok(list(sheet.alloc, brackets, &pieces)?.laid)

@@ -2,8 +2,7 @@
 //! in RON.
 
 use crate::output::nested_bodies::{Held, arm, arm_of, parts_of};
-use crate::output::nested_json_contents::writer_of;
-use crate::output::nested_text::{JSON, TextNames};
+use crate::output::nested_text::{JSON, TextNames, writer_of};
 use derive_impls::chains::append_variants;
 use derive_impls::labels::name_of;
 use derive_impls::layout::{Brackets, Items, Piece, list};
@@ -11,7 +10,7 @@ use derive_impls::rows::Leaf;
 use derive_impls::sheet::Sheet;
 use derive_impls::target::Target;
 use derive_impls::variants::bracketed;
-use derive_syntax::{Content, Field, Variant, variant_name};
+use derive_syntax::{Case, Content, Field, Variant, variant_name};
 use std::alloc::AllocError;
 
 // ---- the row
@@ -107,12 +106,9 @@ fn fields_arm<'a>(
 ) -> Result<String, AllocError> {
     let alloc = sheet.alloc;
     let mut bound = Vec::new(alloc);
-    let mut call = writer_of(alloc, target, variant)?;
-    call.push_str(if format.name == JSON.name {
-        "(self, "
-    } else {
-        "_ron(self, "
-    })?;
+    let end = Case::Snake.of_variant(alloc, variant.name.text)?;
+    let writer = writer_of(alloc, target, format)?;
+    let mut call = format!(in alloc; "{writer}::write_{end}(self, ")?;
     for (i, field) in fields.iter().enumerate() {
         bound.push(format!(in alloc; "{}: v{i}", field.name.text)?)?;
         call.push_str(format!(in alloc; "v{i}, ")?.as_str())?;

@@ -4,8 +4,7 @@
 use crate::output::nested_text::first_text;
 use derive_impls::sheet::Sheet;
 use derive_impls::target::Target;
-use derive_impls::template::Holes;
-use derive_syntax::{Attributes, Case, Variant, codecs_name, crate_of};
+use derive_syntax::{Attributes, Case, Holes, Variant, codecs_name, crate_of};
 use std::alloc::{AllocError, Global};
 
 /// Adds the laws that tactics name: those by which an enum is made, a struct is known to be legal,
@@ -20,14 +19,15 @@ pub(crate) fn put_laws<'a>(
     let views = format!(in alloc; "    #[tactic(auto, using({laws}_views))]\n")?;
     let first = laws_of(alloc, target, first_infix(target.attributes))?;
     let legal = format!(in alloc; "    #[tactic(auto, using({first}_legal))]\n")?;
-    holes.put("LAWS", laws.as_str())?;
+    holes.put("LAWS", laws.as_str());
     if is_enum {
-        holes.put("VIEWS", views.as_str())?;
-        holes.put("LEGAL", "")
+        holes.put("VIEWS", views.as_str());
+        holes.put("LEGAL", "");
     } else {
-        holes.put("VIEWS", "")?;
-        holes.put("LEGAL", legal.as_str())
+        holes.put("VIEWS", "");
+        holes.put("LEGAL", legal.as_str());
     }
+    Ok(())
 }
 
 /// The beginning of the names of the laws of a type, in all formats or in one of texts.
@@ -62,16 +62,18 @@ pub(crate) fn put_codec<'a>(
         let cited = format!(in alloc;
             "    ghost use Rattle.{specs}.{{{name}_means, {name}_codec}};"
         )?;
-        holes.put("CITED", cited.as_str())?;
-        return holes.put("FIRST", format!(in alloc; "{name}_codec")?.as_str());
+        holes.put("CITED", cited.as_str());
+        holes.put("FIRST", format!(in alloc; "{name}_codec")?.as_str());
+        return Ok(());
     };
     let (texts, end) = (specs_of(alloc, target.module, format.word)?, format.name);
     let cited = format!(in alloc;
         "    ghost use Rattle.{specs}.{{{name}_means}};
     ghost use Rattle.{texts}.{{{name}_{end}}};"
     )?;
-    holes.put("CITED", cited.as_str())?;
-    holes.put("FIRST", format!(in alloc; "{name}_{end}")?.as_str())
+    holes.put("CITED", cited.as_str());
+    holes.put("FIRST", format!(in alloc; "{name}_{end}")?.as_str());
+    Ok(())
 }
 
 /// The holes that names of a type stand in, with those of its definitions.
@@ -81,20 +83,20 @@ pub(crate) fn nested_holes<'a>(
 ) -> Result<Holes, AllocError> {
     let alloc = sheet.alloc;
     let name = Case::Snake.of_variant(alloc, target.name.text)?;
-    let mut holes = target.holes(alloc)?;
-    holes.put("SPECS", specs_of(alloc, target.module, "")?.as_str())?;
-    holes.put("SEEN", format!(in alloc; "{name}_view")?.as_str())?;
-    holes.put("MEANS", format!(in alloc; "{name}_means")?.as_str())?;
+    let mut holes = target.holes(alloc);
+    holes.put("SPECS", specs_of(alloc, target.module, "")?.as_str());
+    holes.put("SEEN", format!(in alloc; "{name}_view")?.as_str());
+    holes.put("MEANS", format!(in alloc; "{name}_means")?.as_str());
     Ok(holes)
 }
 
 /// Adds what says that a value is of a variant with so many fields, and the line that brings in the
-/// variant for it, unless an earlier format has it.
+/// variant for it.
 pub(crate) fn put_variant<'a>(
     holes: &mut Holes,
     alloc: Global,
     target: &Target<'a>,
-    (variant, count, is_brought): (&Variant<'a>, usize, bool),
+    (variant, count): (&Variant<'a>, usize),
 ) -> Result<(), AllocError> {
     let (of, own) = (target.name.text, variant.name.text);
     let (library, path) = crate_of(target.module);
@@ -102,14 +104,12 @@ pub(crate) fn put_variant<'a>(
     for i in 0..count {
         whole.push_str(format!(in alloc; " v{i}.now")?.as_str())?;
     }
-    holes.put("WHOLE", whole.as_str())?;
-    if is_brought {
-        return holes.put("BROUGHT", "");
-    }
+    holes.put("WHOLE", whole.as_str());
     let line = format!(in alloc;
-        "ghost use Rattle.{library}.specs.declared{path}.{of}.{{{own} as {of}-{own}}};\n"
+        "    ghost use Rattle.{library}.specs.declared{path}.{of}.{{{own} as {of}-{own}}};\n"
     )?;
-    holes.put("BROUGHT", line.as_str())
+    holes.put("BROUGHT", line.as_str());
+    Ok(())
 }
 
 /// The module of the definitions of the types of a module, or of those of a format of texts.

@@ -20,7 +20,7 @@ pub(crate) fn append_ron_choice<'a>(
     let alloc = sheet.alloc;
     let mut holes = text_holes(sheet, target, RON)?;
     let call = reading(sheet, RON, (target.row.as_str(), "choice"))?;
-    holes.put("CALL", call.as_str())?;
+    holes.put("CALL", call.as_str());
     sheet.write(in_ron(alloc, CODEC)?.as_str(), &holes)?;
     let around = if append_contents(sheet, target, variants)? {
         let name = Case::Snake.of_variant(alloc, target.name.text)?;
@@ -28,8 +28,8 @@ pub(crate) fn append_ron_choice<'a>(
     } else {
         String::new(alloc)
     };
-    holes.put("AROUND", around.as_str())?;
-    holes.put("ARMS", arms(sheet, target, variants, RON)?.as_str())?;
+    holes.put("AROUND", around.as_str());
+    holes.put("ARMS", arms(sheet, target, variants, RON)?.as_str());
     sheet.write(in_ron(alloc, CHOICE)?.as_str(), &holes)?;
     sheet.write(in_ron(alloc, READER)?.as_str(), &holes)
 }
@@ -45,11 +45,10 @@ pub(crate) fn append_ron_record<'a>(
     let name = Case::Snake.of_variant(alloc, target.name.text)?;
     let mut holes = text_holes(sheet, target, RON)?;
     let call = reading(sheet, RON, (target.row.as_str(), "record"))?;
-    holes.put("CALL", call.as_str())?;
-    holes.put("APPEND", format!(in alloc; "append_{name}_ron")?.as_str())?;
-    holes.put("CYCLE", format!(in alloc; "write_{name}_ron")?.as_str())?;
+    holes.put("CALL", call.as_str());
+    holes.put("CYCLE", format!(in alloc; "write_{name}_ron")?.as_str());
     let steps = field_steps(sheet, target.name, fields, true)?;
-    holes.put("FIELDS", steps.as_str())?;
+    holes.put("FIELDS", steps.as_str());
     for template in [CODEC, RECORD, READER] {
         sheet.write(in_ron(alloc, template)?.as_str(), &holes)?;
     }

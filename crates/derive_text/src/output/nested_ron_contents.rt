@@ -1,62 +1,53 @@
 //! The variants with named fields of enums that contain themselves, in RON: what writes each.
 
 use crate::output::nested_json::import_outcomes;
+use crate::output::nested_json_contents::append_writer;
 use crate::output::nested_names::{put_variant, specs_of};
 use crate::output::nested_ron_steps::field_steps;
-use crate::output::nested_text::RON;
+use crate::output::nested_text::{RON, writer_of};
 use derive_impls::sheet::Sheet;
 use derive_impls::target::Target;
-use derive_impls::template::Holes;
 use derive_impls::types::type_text;
-use derive_syntax::{Case, Content, Field, Variant, variant_name};
+use derive_syntax::{Case, Content, Field, Holes, Variant, variant_name};
 use std::alloc::{AllocError, Global};
 
-const WRITER: &str = "
-$BROUGHTghost use Rattle.$TEXTS.{$OWN};
+const CONTENT: &str = "
+impl $WRITER {
+$BROUGHT    ghost use Rattle.$TEXTS.{$OWN};
 
-/// Appends `$CASE`. If the write fails, what was written so far is left.
-#[cycle($CYCLE)]
-fn $APPEND(
-    value: &$TYPE,
-$ARGUMENTS    alloc: std::alloc::Global,
-    d: usize,
-    s: &mut nano_ron_schema::SerRonState,
-) -> Result<(), std::alloc::AllocError>
-    requires { value.now ≡ $WHOLE }
-    ensures ok { OnOk result
-        (Appends s.old.out s.new.out ($OWN d$SAID)) }
-    ensures err { OnErr result (AppendsPart s.old.out s.new.out) }
-{
-$STEPS}
+    /// Appends `$CASE`. If the write fails, what was written so far is left.
+    #[cycle($CYCLE)]
+    fn append_$END(
+        value: &$TYPE,
+$ARGUMENTS        alloc: std::alloc::Global,
+        d: usize,
+        s: &mut nano_ron_schema::SerRonState,
+    ) -> Result<(), std::alloc::AllocError>
+        requires { value.now ≡ $WHOLE }
+        ensures ok { OnOk result
+            (Appends s.old.out s.new.out ($OWN d$SAID)) }
+        ensures err { OnErr result (AppendsPart s.old.out s.new.out) }
+    {
+$STEPS    }
 
-/// Appends `$CASE`. If the write fails, the text is unchanged.
-#[cycle($CYCLE)]
-fn $PUT(
-    value: &$TYPE,
-$ARGUMENTS    alloc: std::alloc::Global,
-    d: usize,
-    s: &mut nano_ron_schema::SerRonState,
-) -> Result<(), std::alloc::AllocError>
-    requires { value.now ≡ $WHOLE }
-    ensures ok { OnOk result
-        (Appends s.old.out s.new.out ($OWN d$SAID)) }
-    ensures err { OnErr result (Unchanged s.old.out s.new.out) }
-{
-    let start = s.out.len();
-    let written = $APPEND(value, $GIVENalloc, d, s);
-    nano_ron_nested::rollback_on_error(&mut s.out, start, written)
+    /// Appends `$CASE`. If the write fails, the text is unchanged.
+    #[cycle($CYCLE)]
+    fn write_$END(
+        value: &$TYPE,
+$ARGUMENTS        alloc: std::alloc::Global,
+        d: usize,
+        s: &mut nano_ron_schema::SerRonState,
+    ) -> Result<(), std::alloc::AllocError>
+        requires { value.now ≡ $WHOLE }
+        ensures ok { OnOk result
+            (Appends s.old.out s.new.out ($OWN d$SAID)) }
+        ensures err { OnErr result (Unchanged s.old.out s.new.out) }
+    {
+        let start = s.out.len();
+        let written = Self::append_$END(value, $GIVENalloc, d, s);
+        nano_ron_nested::rollback_on_error(&mut s.out, start, written)
+    }
 }";
-
-/// The names of a type and of a variant, as those of functions have them.
-fn name_of<'a>(
-    alloc: Global,
-    target: &Target<'a>,
-    variant: &Variant<'a>,
-) -> Result<String, AllocError> {
-    let of = Case::Snake.of_variant(alloc, target.name.text)?;
-    let end = Case::Snake.of_variant(alloc, variant.name.text)?;
-    format!(in alloc; "{of}_{end}")
-}
 
 /// Appends what writes each variant that has named fields, and says whether there is one.
 pub(crate) fn append_contents<'a>(
@@ -64,11 +55,10 @@ pub(crate) fn append_contents<'a>(
     target: &Target<'a>,
     variants: &[Variant<'a>],
 ) -> Result<bool, AllocError> {
-    let mut is_there = false;
+    let is_there = append_writer(sheet, target, variants, RON)?;
     for variant in variants {
         if let Content::Fields(fields) = &variant.content {
             append_content(sheet, target, variant, fields)?;
-            is_there = true;
         }
     }
     Ok(is_there)
@@ -89,25 +79,18 @@ fn append_content<'a>(
     let end = Case::Snake.of_variant(alloc, variant.name.text)?;
     let mut holes = Holes::new(alloc);
     put_arguments(&mut holes, alloc, fields)?;
-    let is_brought = target.attributes.json.is_used();
-    put_variant(
-        &mut holes,
-        alloc,
-        target,
-        (variant, fields.len(), is_brought),
-    )?;
+    put_variant(&mut holes, alloc, target, (variant, fields.len()))?;
     let steps = steps_of(sheet, target, variant, fields)?;
-    let of = name_of(alloc, target, variant)?;
     let texts = specs_of(alloc, target.module, RON.word)?;
-    holes.put("TEXTS", texts.as_str())?;
-    holes.put("OWN", format!(in alloc; "{name}_ron_of_{end}")?.as_str())?;
-    holes.put("TYPE", target.full.as_str())?;
-    holes.put("CASE", variant.name.text)?;
-    holes.put("CYCLE", format!(in alloc; "write_{name}_ron")?.as_str())?;
-    holes.put("APPEND", format!(in alloc; "append_{of}_ron")?.as_str())?;
-    holes.put("PUT", format!(in alloc; "write_{of}_ron")?.as_str())?;
-    holes.put("STEPS", steps.as_str())?;
-    sheet.write(WRITER, &holes)
+    holes.put("TEXTS", texts.as_str());
+    holes.put("OWN", format!(in alloc; "{name}_ron_of_{end}")?.as_str());
+    holes.put("TYPE", target.full.as_str());
+    holes.put("CASE", variant.name.text);
+    holes.put("CYCLE", format!(in alloc; "write_{name}_ron")?.as_str());
+    holes.put("WRITER", writer_of(alloc, target, RON)?.as_str());
+    holes.put("END", end.as_str());
+    holes.put("STEPS", steps.as_str());
+    sheet.write(CONTENT, &holes)
 }
 
 /// Adds the values of fields as arguments, as what is passed, and as a clause says them.
@@ -121,13 +104,14 @@ fn put_arguments<'a>(
     let mut said = String::new(alloc);
     for (i, field) in fields.iter().enumerate() {
         let of = type_text(alloc, field.of)?;
-        arguments.push_str(format!(in alloc; "    v{i}: &{of},\n")?.as_str())?;
+        arguments.push_str(format!(in alloc; "        v{i}: &{of},\n")?.as_str())?;
         given.push_str(format!(in alloc; "v{i}, ")?.as_str())?;
         said.push_str(format!(in alloc; " v{i}.now")?.as_str())?;
     }
-    holes.put("ARGUMENTS", arguments.as_str())?;
-    holes.put("GIVEN", given.as_str())?;
-    holes.put("SAID", said.as_str())
+    holes.put("ARGUMENTS", arguments.as_str());
+    holes.put("GIVEN", given.as_str());
+    holes.put("SAID", said.as_str());
+    Ok(())
 }
 
 /// The steps that append a variant that has these fields.
@@ -143,10 +127,10 @@ fn steps_of<'a>(
     let call = sheet.short(call.as_str())?;
     let steps = field_steps(sheet, target.name, fields, false)?;
     format!(in alloc;
-        "    {call}?;
-    s.st_pre()?;
-    let inner = d.saturating_add(1);
-{steps}    s.st_post(d)
+        "        {call}?;
+        s.st_pre()?;
+        let inner = d.saturating_add(1);
+{steps}        s.st_post(d)
 "
     )
 }

@@ -49,9 +49,9 @@ fn step(sheet: &mut Sheet, open: &str, arguments: &[&str]) -> Result<String, All
         open: open.as_str(),
         close: ")?;",
         items: Items::Values,
-        indent: 4,
-        before: 4,
+        indent: 8,
+        before: 8,
         after: 0,
     };
-    format!(in sheet.alloc; "    {}\n", list(sheet.alloc, brackets, &pieces)?.laid)
+    format!(in sheet.alloc; "        {}\n", list(sheet.alloc, brackets, &pieces)?.laid)
 }

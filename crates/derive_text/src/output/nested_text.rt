@@ -5,8 +5,7 @@ use crate::output::nested_names::{laws_of, nested_holes, specs_of};
 use derive_impls::layout::{Brackets, Items, Piece, list};
 use derive_impls::sheet::Sheet;
 use derive_impls::target::Target;
-use derive_impls::template::Holes;
-use derive_syntax::{Attributes, Case};
+use derive_syntax::{Attributes, Case, Holes};
 use std::alloc::{AllocError, Global};
 
 /// A format of texts, by its names.
@@ -16,18 +15,22 @@ pub(crate) struct TextNames {
     pub(crate) name: &'static str,
     /// As the names of traits and files have it.
     pub(crate) word: &'static str,
+    /// As comments have it.
+    pub(crate) title: &'static str,
 }
 
 /// JSON.
 pub(crate) const JSON: TextNames = TextNames {
     name: "json",
     word: "Json",
+    title: "JSON",
 };
 
 /// RON.
 pub(crate) const RON: TextNames = TextNames {
     name: "ron",
     word: "Ron",
+    title: "RON",
 };
 
 /// What a template of JSON says otherwise in RON.
@@ -65,14 +68,6 @@ pub(crate) fn first_text(attributes: Attributes<'_>) -> Option<TextNames> {
     Some(if attributes.json.is_used() { JSON } else { RON })
 }
 
-/// Whether a format of texts is the first one of a type.
-fn is_first(attributes: Attributes<'_>, format: TextNames) -> bool {
-    match first_text(attributes) {
-        Some(first) => first.name == format.name,
-        None => false,
-    }
-}
-
 /// What stands in the templates of a format of texts.
 pub(crate) fn text_holes<'a>(
     sheet: &mut Sheet,
@@ -80,27 +75,32 @@ pub(crate) fn text_holes<'a>(
     format: TextNames,
 ) -> Result<Holes, AllocError> {
     let alloc = sheet.alloc;
-    let TextNames { name: end, word } = format;
+    let TextNames {
+        name: end,
+        word,
+        ..
+    } = format;
     let name = Case::Snake.of_variant(alloc, target.name.text)?;
     let mut holes = nested_holes(sheet, target)?;
     let codec = format!(in alloc; "{name}_{end}")?;
-    let (agrees, cited) = if is_first(target.attributes, format) {
-        sheet.import("ghost use Rattle.nano_schema.specs.UserTypes.{agreed};")?;
-        (String::from_str(alloc, "agreed")?, codec.clone()?)
-    } else {
-        let agrees = format!(in alloc; "{codec}_agrees")?;
-        let cited = format!(in alloc; "{codec}, {agrees}")?;
-        (agrees, cited)
-    };
-    holes.put("RULES", laws_of(alloc, target, word)?.as_str())?;
-    holes.put("TEXTS", specs_of(alloc, target.module, word)?.as_str())?;
-    holes.put("CITED", cited.as_str())?;
-    holes.put("OWN", codec.as_str())?;
-    holes.put("AGREES", agrees.as_str())?;
-    holes.put("AT", format!(in alloc; "{name}_{end}_at")?.as_str())?;
-    holes.put("LIMIT", target.attributes.level_limit())?;
-    holes.put("DEEP", too_deep(sheet, target, end)?.as_str())?;
+    sheet.import("ghost use Rattle.nano_schema.specs.UserTypes.{agreed};")?;
+    holes.put("RULES", laws_of(alloc, target, word)?.as_str());
+    holes.put("TEXTS", specs_of(alloc, target.module, word)?.as_str());
+    holes.put("OWN", codec.as_str());
+    holes.put("WRITER", writer_of(alloc, target, format)?.as_str());
+    holes.put("AT", format!(in alloc; "{name}_{end}_at")?.as_str());
+    holes.put("LIMIT", target.attributes.level_limit());
+    holes.put("DEEP", too_deep(sheet, target, end)?.as_str());
     Ok(holes)
+}
+
+/// The name of what writes a type field by field in a format of texts.
+pub(crate) fn writer_of<'a>(
+    alloc: Global,
+    target: &Target<'a>,
+    format: TextNames,
+) -> Result<String, AllocError> {
+    format!(in alloc; "{}{}Writer", target.name.text, format.word)
 }
 
 /// The call that reports more levels than are read, in the format of this name.

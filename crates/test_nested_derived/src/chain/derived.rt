@@ -117,11 +117,11 @@ impl DeBin for Chain {
 // ---- JSON
 
 impl JsonCodec for Chain {
-    ghost use Rattle.test_nested_derived.specs.ChainJsonCodecs.{chain_json, chain_json_agrees};
+    ghost use Rattle.test_nested_derived.specs.ChainJsonCodecs.{chain_json};
 
     ghost json = { chain_json };
 
-    ghost agrees = { chain_json_agrees };
+    ghost agrees = { agreed };
 }
 
 impl NestedJson for Chain {
@@ -133,37 +133,43 @@ impl NestedJson for Chain {
     ghost at = { chain_json_at };
 }
 
-ghost use Rattle.test_nested_derived.specs.ChainJsonCodecs.{chain_json};
+/// What writes `Chain` as JSON.
+struct ChainJsonWriter {}
 
-/// Appends the fields between braces. If the write fails, what was written so far is left.
-#[cycle(write_chain_json)]
-fn append_chain_json(
-    value: &Chain,
-    alloc: Global,
-    d: usize,
-    s: &mut SerJsonState,
-) -> Result<(), AllocError>
-    ensures ok { OnOk result (Appends s.old.out s.new.out (chain_json.canonical.text d value.now)) }
-    ensures err { OnErr result (AppendsPart s.old.out s.new.out) }
-{
-    s.st_pre()?;
-    let inner = d.saturating_add(1);
-    let next_is_first = Required::<ChainNames<0>, u32>::append_fields(
-        &&value.number,
-        alloc,
-        true,
-        inner,
-        s,
-    )?;
-    append_optional_within(alloc, "next", &value.next, next_is_first, inner, s)?;
-    s.st_post(d)
+impl ChainJsonWriter {
+    ghost use Rattle.test_nested_derived.specs.ChainJsonCodecs.{chain_json};
+
+    /// Appends the fields between braces. If the write fails, what was written so far is left.
+    #[cycle(write_chain_json)]
+    fn append_record(
+        value: &Chain,
+        alloc: Global,
+        d: usize,
+        s: &mut SerJsonState,
+    ) -> Result<(), AllocError>
+        ensures ok { OnOk result
+            (Appends s.old.out s.new.out (chain_json.canonical.text d value.now)) }
+        ensures err { OnErr result (AppendsPart s.old.out s.new.out) }
+    {
+        s.st_pre()?;
+        let inner = d.saturating_add(1);
+        let next_is_first = Required::<ChainNames<0>, u32>::append_fields(
+            &&value.number,
+            alloc,
+            true,
+            inner,
+            s,
+        )?;
+        append_optional_within(alloc, "next", &value.next, next_is_first, inner, s)?;
+        s.st_post(d)
+    }
 }
 
 impl WritesJson for Chain {
     #[cycle(write_chain_json)]
     fn write_json(&self, alloc: Global, d: usize, s: &mut SerJsonState) -> Result<(), AllocError> {
         let start = s.out.len();
-        let written = append_chain_json(self, alloc, d, s);
+        let written = ChainJsonWriter::append_record(self, alloc, d, s);
         rollback_on_error(&mut s.out, start, written)
     }
 }
@@ -213,11 +219,11 @@ impl DeJson for Chain {
 // ---- RON
 
 impl RonCodec for Chain {
-    ghost use Rattle.test_nested_derived.specs.ChainRonCodecs.{chain_ron, chain_ron_agrees};
+    ghost use Rattle.test_nested_derived.specs.ChainRonCodecs.{chain_ron};
 
     ghost ron = { chain_ron };
 
-    ghost agrees = { chain_ron_agrees };
+    ghost agrees = { agreed };
 }
 
 impl NestedRon for Chain {
@@ -229,31 +235,37 @@ impl NestedRon for Chain {
     ghost at = { chain_ron_at };
 }
 
-ghost use Rattle.test_nested_derived.specs.ChainRonCodecs.{chain_ron};
+/// What writes `Chain` as RON.
+struct ChainRonWriter {}
 
-/// Appends the fields between parentheses. If the write fails, what was written so far is left.
-#[cycle(write_chain_ron)]
-fn append_chain_ron(
-    value: &Chain,
-    alloc: Global,
-    d: usize,
-    s: &mut SerRonState,
-) -> Result<(), AllocError>
-    ensures ok { OnOk result (Appends s.old.out s.new.out (chain_ron.canonical.text d value.now)) }
-    ensures err { OnErr result (AppendsPart s.old.out s.new.out) }
-{
-    s.st_pre()?;
-    let inner = d.saturating_add(1);
-    append_required(alloc, "number", &value.number, inner, s)?;
-    nano_ron_nested::append_optional_within(alloc, "next", &value.next, inner, s)?;
-    s.st_post(d)
+impl ChainRonWriter {
+    ghost use Rattle.test_nested_derived.specs.ChainRonCodecs.{chain_ron};
+
+    /// Appends the fields between parentheses. If the write fails, what was written so far is left.
+    #[cycle(write_chain_ron)]
+    fn append_record(
+        value: &Chain,
+        alloc: Global,
+        d: usize,
+        s: &mut SerRonState,
+    ) -> Result<(), AllocError>
+        ensures ok { OnOk result
+            (Appends s.old.out s.new.out (chain_ron.canonical.text d value.now)) }
+        ensures err { OnErr result (AppendsPart s.old.out s.new.out) }
+    {
+        s.st_pre()?;
+        let inner = d.saturating_add(1);
+        append_required(alloc, "number", &value.number, inner, s)?;
+        nano_ron_nested::append_optional_within(alloc, "next", &value.next, inner, s)?;
+        s.st_post(d)
+    }
 }
 
 impl WritesRon for Chain {
     #[cycle(write_chain_ron)]
     fn write_ron(&self, alloc: Global, d: usize, s: &mut SerRonState) -> Result<(), AllocError> {
         let start = s.out.len();
-        let written = append_chain_ron(self, alloc, d, s);
+        let written = ChainRonWriter::append_record(self, alloc, d, s);
         nano_ron_nested::rollback_on_error(&mut s.out, start, written)
     }
 }

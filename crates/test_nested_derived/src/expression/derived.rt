@@ -168,11 +168,11 @@ impl DeBin for Expression {
 // ---- JSON
 
 impl JsonCodec for Expression {
-    ghost use Rattle.test_nested_derived.specs.ExpressionJsonCodecs.{expression_json, expression_json_agrees};
+    ghost use Rattle.test_nested_derived.specs.ExpressionJsonCodecs.{expression_json};
 
     ghost json = { expression_json };
 
-    ghost agrees = { expression_json_agrees };
+    ghost agrees = { agreed };
 }
 
 impl NestedJson for Expression {
@@ -258,11 +258,11 @@ impl DeJson for Expression {
 // ---- RON
 
 impl RonCodec for Expression {
-    ghost use Rattle.test_nested_derived.specs.ExpressionRonCodecs.{expression_ron, expression_ron_agrees};
+    ghost use Rattle.test_nested_derived.specs.ExpressionRonCodecs.{expression_ron};
 
     ghost ron = { expression_ron };
 
-    ghost agrees = { expression_ron_agrees };
+    ghost agrees = { agreed };
 }
 
 impl NestedRon for Expression {

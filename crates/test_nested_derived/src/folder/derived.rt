@@ -122,11 +122,11 @@ impl DeBin for Folder {
 // ---- JSON
 
 impl JsonCodec for Folder {
-    ghost use Rattle.test_nested_derived.specs.FolderJsonCodecs.{folder_json, folder_json_agrees};
+    ghost use Rattle.test_nested_derived.specs.FolderJsonCodecs.{folder_json};
 
     ghost json = { folder_json };
 
-    ghost agrees = { folder_json_agrees };
+    ghost agrees = { agreed };
 }
 
 impl NestedJson for Folder {
@@ -138,37 +138,43 @@ impl NestedJson for Folder {
     ghost at = { folder_json_at };
 }
 
-ghost use Rattle.test_nested_derived.specs.FolderJsonCodecs.{folder_json};
+/// What writes `Folder` as JSON.
+struct FolderJsonWriter {}
 
-/// Appends the fields between braces. If the write fails, what was written so far is left.
-#[cycle(write_folder_json)]
-fn append_folder_json(
-    value: &Folder,
-    alloc: Global,
-    d: usize,
-    s: &mut SerJsonState,
-) -> Result<(), AllocError>
-    ensures ok { OnOk result (Appends s.old.out s.new.out (folder_json.canonical.text d value.now)) }
-    ensures err { OnErr result (AppendsPart s.old.out s.new.out) }
-{
-    s.st_pre()?;
-    let inner = d.saturating_add(1);
-    let folders_is_first = Required::<FolderNames<0>, String>::append_fields(
-        &&value.name,
-        alloc,
-        true,
-        inner,
-        s,
-    )?;
-    append_required_within(alloc, "folders", &value.folders, folders_is_first, inner, s)?;
-    s.st_post(d)
+impl FolderJsonWriter {
+    ghost use Rattle.test_nested_derived.specs.FolderJsonCodecs.{folder_json};
+
+    /// Appends the fields between braces. If the write fails, what was written so far is left.
+    #[cycle(write_folder_json)]
+    fn append_record(
+        value: &Folder,
+        alloc: Global,
+        d: usize,
+        s: &mut SerJsonState,
+    ) -> Result<(), AllocError>
+        ensures ok { OnOk result
+            (Appends s.old.out s.new.out (folder_json.canonical.text d value.now)) }
+        ensures err { OnErr result (AppendsPart s.old.out s.new.out) }
+    {
+        s.st_pre()?;
+        let inner = d.saturating_add(1);
+        let folders_is_first = Required::<FolderNames<0>, String>::append_fields(
+            &&value.name,
+            alloc,
+            true,
+            inner,
+            s,
+        )?;
+        append_required_within(alloc, "folders", &value.folders, folders_is_first, inner, s)?;
+        s.st_post(d)
+    }
 }
 
 impl WritesJson for Folder {
     #[cycle(write_folder_json)]
     fn write_json(&self, alloc: Global, d: usize, s: &mut SerJsonState) -> Result<(), AllocError> {
         let start = s.out.len();
-        let written = append_folder_json(self, alloc, d, s);
+        let written = FolderJsonWriter::append_record(self, alloc, d, s);
         rollback_on_error(&mut s.out, start, written)
     }
 }
@@ -224,11 +230,11 @@ impl DeJson for Folder {
 // ---- RON
 
 impl RonCodec for Folder {
-    ghost use Rattle.test_nested_derived.specs.FolderRonCodecs.{folder_ron, folder_ron_agrees};
+    ghost use Rattle.test_nested_derived.specs.FolderRonCodecs.{folder_ron};
 
     ghost ron = { folder_ron };
 
-    ghost agrees = { folder_ron_agrees };
+    ghost agrees = { agreed };
 }
 
 impl NestedRon for Folder {
@@ -240,31 +246,37 @@ impl NestedRon for Folder {
     ghost at = { folder_ron_at };
 }
 
-ghost use Rattle.test_nested_derived.specs.FolderRonCodecs.{folder_ron};
+/// What writes `Folder` as RON.
+struct FolderRonWriter {}
 
-/// Appends the fields between parentheses. If the write fails, what was written so far is left.
-#[cycle(write_folder_ron)]
-fn append_folder_ron(
-    value: &Folder,
-    alloc: Global,
-    d: usize,
-    s: &mut SerRonState,
-) -> Result<(), AllocError>
-    ensures ok { OnOk result (Appends s.old.out s.new.out (folder_ron.canonical.text d value.now)) }
-    ensures err { OnErr result (AppendsPart s.old.out s.new.out) }
-{
-    s.st_pre()?;
-    let inner = d.saturating_add(1);
-    append_required(alloc, "name", &value.name, inner, s)?;
-    nano_ron_nested::append_required_within(alloc, "folders", &value.folders, inner, s)?;
-    s.st_post(d)
+impl FolderRonWriter {
+    ghost use Rattle.test_nested_derived.specs.FolderRonCodecs.{folder_ron};
+
+    /// Appends the fields between parentheses. If the write fails, what was written so far is left.
+    #[cycle(write_folder_ron)]
+    fn append_record(
+        value: &Folder,
+        alloc: Global,
+        d: usize,
+        s: &mut SerRonState,
+    ) -> Result<(), AllocError>
+        ensures ok { OnOk result
+            (Appends s.old.out s.new.out (folder_ron.canonical.text d value.now)) }
+        ensures err { OnErr result (AppendsPart s.old.out s.new.out) }
+    {
+        s.st_pre()?;
+        let inner = d.saturating_add(1);
+        append_required(alloc, "name", &value.name, inner, s)?;
+        nano_ron_nested::append_required_within(alloc, "folders", &value.folders, inner, s)?;
+        s.st_post(d)
+    }
 }
 
 impl WritesRon for Folder {
     #[cycle(write_folder_ron)]
     fn write_ron(&self, alloc: Global, d: usize, s: &mut SerRonState) -> Result<(), AllocError> {
         let start = s.out.len();
-        let written = append_folder_ron(self, alloc, d, s);
+        let written = FolderRonWriter::append_record(self, alloc, d, s);
         nano_ron_nested::rollback_on_error(&mut s.out, start, written)
     }
 }

@@ -196,11 +196,11 @@ impl DeBin for Rule {
 // ---- JSON
 
 impl JsonCodec for Rule {
-    ghost use Rattle.test_nested_derived.specs.RuleJsonCodecs.{rule_json, rule_json_agrees};
+    ghost use Rattle.test_nested_derived.specs.RuleJsonCodecs.{rule_json};
 
     ghost json = { rule_json };
 
-    ghost agrees = { rule_json_agrees };
+    ghost agrees = { agreed };
 }
 
 impl NestedJson for Rule {
@@ -212,77 +212,89 @@ impl NestedJson for Rule {
     ghost at = { rule_json_at };
 }
 
-ghost use Rattle.test_nested_derived.specs.declared.rule.Rule.{When as Rule-When};
-ghost use Rattle.test_nested_derived.specs.RuleJsonCodecs.{rule_json, rule_json_content_when};
+/// What writes the variants of `Rule` with named fields as JSON.
+struct RuleJsonWriter {}
 
-/// Appends the fields of `When` between braces. If the write fails, what was written so far is left.
-#[cycle(write_rule_json)]
-fn append_rule_when_fields(
-    value: &Rule,
-    v0: &Box<Rule>,
-    v1: &Box<Rule>,
-    v2: &Option<Box<Rule>>,
-    alloc: Global,
-    d: usize,
-    s: &mut SerJsonState,
-) -> Result<(), AllocError>
-    requires { value.now ≡ Rule-When v0.now v1.now v2.now }
-    ensures ok { OnOk result (Appends s.old.out s.new.out
-        ((rule_json_content_when.codec rule_json).canonical.text d (v0.now, (v1.now, v2.now)))) }
-    ensures err { OnErr result (AppendsPart s.old.out s.new.out) }
-{
-    s.st_pre()?;
-    let inner = d.saturating_add(1);
-    let then_is_first = append_required_within(alloc, "condition", v0, true, inner, s)?;
-    let otherwise_is_first = append_required_within(alloc, "then", v1, then_is_first, inner, s)?;
-    append_optional_within(alloc, "otherwise", v2, otherwise_is_first, inner, s)?;
-    s.st_post(d)
-}
+impl RuleJsonWriter {
+    ghost use Rattle.test_nested_derived.specs.declared.rule.Rule.{When as Rule-When};
+    ghost use Rattle.test_nested_derived.specs.RuleJsonCodecs.{rule_json, rule_json_content_when};
 
-/// Appends `When` with its fields. If the write fails, what was written so far is left.
-#[cycle(write_rule_json)]
-fn append_rule_when(
-    value: &Rule,
-    v0: &Box<Rule>,
-    v1: &Box<Rule>,
-    v2: &Option<Box<Rule>>,
-    alloc: Global,
-    d: usize,
-    s: &mut SerJsonState,
-) -> Result<(), AllocError>
-    requires { value.now ≡ Rule-When v0.now v1.now v2.now }
-    ensures ok { OnOk result (Appends s.old.out s.new.out
-        (content_text (codes "When")
-        ((rule_json_content_when.codec rule_json).canonical.text d (v0.now, (v1.now, v2.now))))) }
-    ensures err { OnErr result (AppendsPart s.old.out s.new.out) }
-{
-    s.st_pre()?;
-    "When".ser_json(alloc, 0, s)?;
-    s.out.push_str(":")?;
-    append_rule_when_fields(value, v0, v1, v2, alloc, d, s)?;
-    s.st_post(d)
-}
+    /// Appends the fields of `When`. If the write fails, what was written so far is left.
+    #[cycle(write_rule_json)]
+    fn append_when_fields(
+        value: &Rule,
+        v0: &Box<Rule>,
+        v1: &Box<Rule>,
+        v2: &Option<Box<Rule>>,
+        alloc: Global,
+        d: usize,
+        s: &mut SerJsonState,
+    ) -> Result<(), AllocError>
+        requires { value.now ≡ Rule-When v0.now v1.now v2.now }
+        ensures ok { OnOk result (Appends s.old.out s.new.out
+            ((rule_json_content_when.codec rule_json).canonical.text d (v0.now, (v1.now, v2.now)))) }
+        ensures err { OnErr result (AppendsPart s.old.out s.new.out) }
+    {
+        s.st_pre()?;
+        let inner = d.saturating_add(1);
+        let then_is_first = append_required_within(alloc, "condition", v0, true, inner, s)?;
+        let otherwise_is_first = append_required_within(
+            alloc,
+            "then",
+            v1,
+            then_is_first,
+            inner,
+            s,
+        )?;
+        append_optional_within(alloc, "otherwise", v2, otherwise_is_first, inner, s)?;
+        s.st_post(d)
+    }
 
-/// Appends `When` with its fields. If the write fails, `s.out` is unchanged.
-#[cycle(write_rule_json)]
-fn write_rule_when(
-    value: &Rule,
-    v0: &Box<Rule>,
-    v1: &Box<Rule>,
-    v2: &Option<Box<Rule>>,
-    alloc: Global,
-    d: usize,
-    s: &mut SerJsonState,
-) -> Result<(), AllocError>
-    requires { value.now ≡ Rule-When v0.now v1.now v2.now }
-    ensures ok { OnOk result (Appends s.old.out s.new.out
-        (content_text (codes "When")
-        ((rule_json_content_when.codec rule_json).canonical.text d (v0.now, (v1.now, v2.now))))) }
-    ensures err { OnErr result (Unchanged s.old.out s.new.out) }
-{
-    let start = s.out.len();
-    let written = append_rule_when(value, v0, v1, v2, alloc, d, s);
-    rollback_on_error(&mut s.out, start, written)
+    /// Appends `When` with its fields. If the write fails, what was written so far is left.
+    #[cycle(write_rule_json)]
+    fn append_when(
+        value: &Rule,
+        v0: &Box<Rule>,
+        v1: &Box<Rule>,
+        v2: &Option<Box<Rule>>,
+        alloc: Global,
+        d: usize,
+        s: &mut SerJsonState,
+    ) -> Result<(), AllocError>
+        requires { value.now ≡ Rule-When v0.now v1.now v2.now }
+        ensures ok { OnOk result (Appends s.old.out s.new.out
+            (content_text (codes "When")
+            ((rule_json_content_when.codec rule_json).canonical.text d (v0.now, (v1.now, v2.now))))) }
+        ensures err { OnErr result (AppendsPart s.old.out s.new.out) }
+    {
+        s.st_pre()?;
+        "When".ser_json(alloc, 0, s)?;
+        s.out.push_str(":")?;
+        Self::append_when_fields(value, v0, v1, v2, alloc, d, s)?;
+        s.st_post(d)
+    }
+
+    /// Appends `When` with its fields. If the write fails, `s.out` is unchanged.
+    #[cycle(write_rule_json)]
+    fn write_when(
+        value: &Rule,
+        v0: &Box<Rule>,
+        v1: &Box<Rule>,
+        v2: &Option<Box<Rule>>,
+        alloc: Global,
+        d: usize,
+        s: &mut SerJsonState,
+    ) -> Result<(), AllocError>
+        requires { value.now ≡ Rule-When v0.now v1.now v2.now }
+        ensures ok { OnOk result (Appends s.old.out s.new.out
+            (content_text (codes "When")
+            ((rule_json_content_when.codec rule_json).canonical.text d (v0.now, (v1.now, v2.now))))) }
+        ensures err { OnErr result (Unchanged s.old.out s.new.out) }
+    {
+        let start = s.out.len();
+        let written = Self::append_when(value, v0, v1, v2, alloc, d, s);
+        rollback_on_error(&mut s.out, start, written)
+    }
 }
 
 impl WritesJson for Rule {
@@ -296,7 +308,7 @@ impl WritesJson for Rule {
                 condition: v0,
                 then: v1,
                 otherwise: v2,
-            } => write_rule_when(self, v0, v1, v2, alloc, d, s),
+            } => RuleJsonWriter::write_when(self, v0, v1, v2, alloc, d, s),
         }
     }
 }
@@ -352,11 +364,11 @@ impl DeJson for Rule {
 // ---- RON
 
 impl RonCodec for Rule {
-    ghost use Rattle.test_nested_derived.specs.RuleRonCodecs.{rule_ron, rule_ron_agrees};
+    ghost use Rattle.test_nested_derived.specs.RuleRonCodecs.{rule_ron};
 
     ghost ron = { rule_ron };
 
-    ghost agrees = { rule_ron_agrees };
+    ghost agrees = { agreed };
 }
 
 impl NestedRon for Rule {
@@ -368,52 +380,58 @@ impl NestedRon for Rule {
     ghost at = { rule_ron_at };
 }
 
-ghost use Rattle.test_nested_derived.specs.RuleRonCodecs.{rule_ron_of_when};
+/// What writes the variants of `Rule` with named fields as RON.
+struct RuleRonWriter {}
 
-/// Appends `When`. If the write fails, what was written so far is left.
-#[cycle(write_rule_ron)]
-fn append_rule_when_ron(
-    value: &Rule,
-    v0: &Box<Rule>,
-    v1: &Box<Rule>,
-    v2: &Option<Box<Rule>>,
-    alloc: Global,
-    d: usize,
-    s: &mut SerRonState,
-) -> Result<(), AllocError>
-    requires { value.now ≡ Rule-When v0.now v1.now v2.now }
-    ensures ok { OnOk result
-        (Appends s.old.out s.new.out (rule_ron_of_when d v0.now v1.now v2.now)) }
-    ensures err { OnErr result (AppendsPart s.old.out s.new.out) }
-{
-    nano_ron_schema::write_unit_variant("When", s)?;
-    s.st_pre()?;
-    let inner = d.saturating_add(1);
-    nano_ron_nested::append_required_within(alloc, "condition", v0, inner, s)?;
-    nano_ron_nested::append_required_within(alloc, "then", v1, inner, s)?;
-    nano_ron_nested::append_optional_within(alloc, "otherwise", v2, inner, s)?;
-    s.st_post(d)
-}
+impl RuleRonWriter {
+    ghost use Rattle.test_nested_derived.specs.declared.rule.Rule.{When as Rule-When};
+    ghost use Rattle.test_nested_derived.specs.RuleRonCodecs.{rule_ron_of_when};
 
-/// Appends `When`. If the write fails, the text is unchanged.
-#[cycle(write_rule_ron)]
-fn write_rule_when_ron(
-    value: &Rule,
-    v0: &Box<Rule>,
-    v1: &Box<Rule>,
-    v2: &Option<Box<Rule>>,
-    alloc: Global,
-    d: usize,
-    s: &mut SerRonState,
-) -> Result<(), AllocError>
-    requires { value.now ≡ Rule-When v0.now v1.now v2.now }
-    ensures ok { OnOk result
-        (Appends s.old.out s.new.out (rule_ron_of_when d v0.now v1.now v2.now)) }
-    ensures err { OnErr result (Unchanged s.old.out s.new.out) }
-{
-    let start = s.out.len();
-    let written = append_rule_when_ron(value, v0, v1, v2, alloc, d, s);
-    nano_ron_nested::rollback_on_error(&mut s.out, start, written)
+    /// Appends `When`. If the write fails, what was written so far is left.
+    #[cycle(write_rule_ron)]
+    fn append_when(
+        value: &Rule,
+        v0: &Box<Rule>,
+        v1: &Box<Rule>,
+        v2: &Option<Box<Rule>>,
+        alloc: Global,
+        d: usize,
+        s: &mut SerRonState,
+    ) -> Result<(), AllocError>
+        requires { value.now ≡ Rule-When v0.now v1.now v2.now }
+        ensures ok { OnOk result
+            (Appends s.old.out s.new.out (rule_ron_of_when d v0.now v1.now v2.now)) }
+        ensures err { OnErr result (AppendsPart s.old.out s.new.out) }
+    {
+        nano_ron_schema::write_unit_variant("When", s)?;
+        s.st_pre()?;
+        let inner = d.saturating_add(1);
+        nano_ron_nested::append_required_within(alloc, "condition", v0, inner, s)?;
+        nano_ron_nested::append_required_within(alloc, "then", v1, inner, s)?;
+        nano_ron_nested::append_optional_within(alloc, "otherwise", v2, inner, s)?;
+        s.st_post(d)
+    }
+
+    /// Appends `When`. If the write fails, the text is unchanged.
+    #[cycle(write_rule_ron)]
+    fn write_when(
+        value: &Rule,
+        v0: &Box<Rule>,
+        v1: &Box<Rule>,
+        v2: &Option<Box<Rule>>,
+        alloc: Global,
+        d: usize,
+        s: &mut SerRonState,
+    ) -> Result<(), AllocError>
+        requires { value.now ≡ Rule-When v0.now v1.now v2.now }
+        ensures ok { OnOk result
+            (Appends s.old.out s.new.out (rule_ron_of_when d v0.now v1.now v2.now)) }
+        ensures err { OnErr result (Unchanged s.old.out s.new.out) }
+    {
+        let start = s.out.len();
+        let written = Self::append_when(value, v0, v1, v2, alloc, d, s);
+        nano_ron_nested::rollback_on_error(&mut s.out, start, written)
+    }
 }
 
 impl WritesRon for Rule {
@@ -427,7 +445,7 @@ impl WritesRon for Rule {
                 condition: v0,
                 then: v1,
                 otherwise: v2,
-            } => write_rule_when_ron(self, v0, v1, v2, alloc, d, s),
+            } => RuleRonWriter::write_when(self, v0, v1, v2, alloc, d, s),
         }
     }
 }

@@ -129,11 +129,11 @@ impl DeBin for Tree {
 // ---- JSON
 
 impl JsonCodec for Tree {
-    ghost use Rattle.test_nested_derived.specs.TreeJsonCodecs.{tree_json, tree_json_agrees};
+    ghost use Rattle.test_nested_derived.specs.TreeJsonCodecs.{tree_json};
 
     ghost json = { tree_json };
 
-    ghost agrees = { tree_json_agrees };
+    ghost agrees = { agreed };
 }
 
 impl NestedJson for Tree {
@@ -206,11 +206,11 @@ impl DeJson for Tree {
 // ---- RON
 
 impl RonCodec for Tree {
-    ghost use Rattle.test_nested_derived.specs.TreeRonCodecs.{tree_ron, tree_ron_agrees};
+    ghost use Rattle.test_nested_derived.specs.TreeRonCodecs.{tree_ron};
 
     ghost ron = { tree_ron };
 
-    ghost agrees = { tree_ron_agrees };
+    ghost agrees = { agreed };
 }
 
 impl NestedRon for Tree {

@@ -121,66 +121,72 @@ impl NestedJson for Comment {
     ghost at = { comment_json_at };
 }
 
-ghost use Rattle.test_nested_derived_ron.specs.CommentJsonCodecs.{comment_json};
+/// What writes `Comment` as JSON.
+struct CommentJsonWriter {}
 
-/// Appends the fields between braces. If the write fails, what was written so far is left.
-#[cycle(write_comment_json)]
-fn append_comment_json(
-    value: &Comment,
-    alloc: Global,
-    d: usize,
-    s: &mut SerJsonState,
-) -> Result<(), AllocError>
-    ensures ok { OnOk result (Appends s.old.out s.new.out (comment_json.canonical.text d value.now)) }
-    ensures err { OnErr result (AppendsPart s.old.out s.new.out) }
-{
-    s.st_pre()?;
-    let inner = d.saturating_add(1);
-    let text_is_first = Required::<CommentNames<0>, String>::append_fields(
-        &&value.author,
-        alloc,
-        true,
-        inner,
-        s,
-    )?;
-    let votes_is_first = Required::<CommentNames<1>, String>::append_fields(
-        &&value.text,
-        alloc,
-        text_is_first,
-        inner,
-        s,
-    )?;
-    let pinned_is_first = Required::<CommentNames<2>, i32>::append_fields(
-        &&value.votes,
-        alloc,
-        votes_is_first,
-        inner,
-        s,
-    )?;
-    let quoted_is_first = Optional::<CommentNames<3>, bool>::append_fields(
-        &&value.pinned,
-        alloc,
-        pinned_is_first,
-        inner,
-        s,
-    )?;
-    let answers_is_first = append_optional_within(
-        alloc,
-        "quoted",
-        &value.quoted,
-        quoted_is_first,
-        inner,
-        s,
-    )?;
-    append_required_within(alloc, "answers", &value.answers, answers_is_first, inner, s)?;
-    s.st_post(d)
+impl CommentJsonWriter {
+    ghost use Rattle.test_nested_derived_ron.specs.CommentJsonCodecs.{comment_json};
+
+    /// Appends the fields between braces. If the write fails, what was written so far is left.
+    #[cycle(write_comment_json)]
+    fn append_record(
+        value: &Comment,
+        alloc: Global,
+        d: usize,
+        s: &mut SerJsonState,
+    ) -> Result<(), AllocError>
+        ensures ok { OnOk result
+            (Appends s.old.out s.new.out (comment_json.canonical.text d value.now)) }
+        ensures err { OnErr result (AppendsPart s.old.out s.new.out) }
+    {
+        s.st_pre()?;
+        let inner = d.saturating_add(1);
+        let text_is_first = Required::<CommentNames<0>, String>::append_fields(
+            &&value.author,
+            alloc,
+            true,
+            inner,
+            s,
+        )?;
+        let votes_is_first = Required::<CommentNames<1>, String>::append_fields(
+            &&value.text,
+            alloc,
+            text_is_first,
+            inner,
+            s,
+        )?;
+        let pinned_is_first = Required::<CommentNames<2>, i32>::append_fields(
+            &&value.votes,
+            alloc,
+            votes_is_first,
+            inner,
+            s,
+        )?;
+        let quoted_is_first = Optional::<CommentNames<3>, bool>::append_fields(
+            &&value.pinned,
+            alloc,
+            pinned_is_first,
+            inner,
+            s,
+        )?;
+        let answers_is_first = append_optional_within(
+            alloc,
+            "quoted",
+            &value.quoted,
+            quoted_is_first,
+            inner,
+            s,
+        )?;
+        append_required_within(alloc, "answers", &value.answers, answers_is_first, inner, s)?;
+        s.st_post(d)
+    }
 }
 
 impl WritesJson for Comment {
     #[cycle(write_comment_json)]
     fn write_json(&self, alloc: Global, d: usize, s: &mut SerJsonState) -> Result<(), AllocError> {
         let start = s.out.len();
-        let written = append_comment_json(self, alloc, d, s);
+        let written = CommentJsonWriter::append_record(self, alloc, d, s);
         rollback_on_error(&mut s.out, start, written)
     }
 }
@@ -236,11 +242,11 @@ impl DeJson for Comment {
 // ---- RON
 
 impl RonCodec for Comment {
-    ghost use Rattle.test_nested_derived_ron.specs.CommentRonCodecs.{comment_ron, comment_ron_agrees};
+    ghost use Rattle.test_nested_derived_ron.specs.CommentRonCodecs.{comment_ron};
 
     ghost ron = { comment_ron };
 
-    ghost agrees = { comment_ron_agrees };
+    ghost agrees = { agreed };
 }
 
 impl NestedRon for Comment {
@@ -252,35 +258,41 @@ impl NestedRon for Comment {
     ghost at = { comment_ron_at };
 }
 
-ghost use Rattle.test_nested_derived_ron.specs.CommentRonCodecs.{comment_ron};
+/// What writes `Comment` as RON.
+struct CommentRonWriter {}
 
-/// Appends the fields between parentheses. If the write fails, what was written so far is left.
-#[cycle(write_comment_ron)]
-fn append_comment_ron(
-    value: &Comment,
-    alloc: Global,
-    d: usize,
-    s: &mut SerRonState,
-) -> Result<(), AllocError>
-    ensures ok { OnOk result (Appends s.old.out s.new.out (comment_ron.canonical.text d value.now)) }
-    ensures err { OnErr result (AppendsPart s.old.out s.new.out) }
-{
-    s.st_pre()?;
-    let inner = d.saturating_add(1);
-    append_required(alloc, "author", &value.author, inner, s)?;
-    append_required(alloc, "text", &value.text, inner, s)?;
-    append_required(alloc, "votes", &value.votes, inner, s)?;
-    append_optional(alloc, "pinned", &value.pinned, inner, s)?;
-    nano_ron_nested::append_optional_within(alloc, "quoted", &value.quoted, inner, s)?;
-    nano_ron_nested::append_required_within(alloc, "answers", &value.answers, inner, s)?;
-    s.st_post(d)
+impl CommentRonWriter {
+    ghost use Rattle.test_nested_derived_ron.specs.CommentRonCodecs.{comment_ron};
+
+    /// Appends the fields between parentheses. If the write fails, what was written so far is left.
+    #[cycle(write_comment_ron)]
+    fn append_record(
+        value: &Comment,
+        alloc: Global,
+        d: usize,
+        s: &mut SerRonState,
+    ) -> Result<(), AllocError>
+        ensures ok { OnOk result
+            (Appends s.old.out s.new.out (comment_ron.canonical.text d value.now)) }
+        ensures err { OnErr result (AppendsPart s.old.out s.new.out) }
+    {
+        s.st_pre()?;
+        let inner = d.saturating_add(1);
+        append_required(alloc, "author", &value.author, inner, s)?;
+        append_required(alloc, "text", &value.text, inner, s)?;
+        append_required(alloc, "votes", &value.votes, inner, s)?;
+        append_optional(alloc, "pinned", &value.pinned, inner, s)?;
+        nano_ron_nested::append_optional_within(alloc, "quoted", &value.quoted, inner, s)?;
+        nano_ron_nested::append_required_within(alloc, "answers", &value.answers, inner, s)?;
+        s.st_post(d)
+    }
 }
 
 impl WritesRon for Comment {
     #[cycle(write_comment_ron)]
     fn write_ron(&self, alloc: Global, d: usize, s: &mut SerRonState) -> Result<(), AllocError> {
         let start = s.out.len();
-        let written = append_comment_ron(self, alloc, d, s);
+        let written = CommentRonWriter::append_record(self, alloc, d, s);
         nano_ron_nested::rollback_on_error(&mut s.out, start, written)
     }
 }

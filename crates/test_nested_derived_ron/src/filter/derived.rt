@@ -172,75 +172,80 @@ type FilterJsonVariants2 = (
 
 type FilterJsonVariants = (Variant<FilterNames<0>, Other<Unit>>, FilterJsonVariants2);
 
-ghost use Rattle.test_nested_derived_ron.specs.declared.filter.Filter.{Has as Filter-Has};
-ghost use Rattle.test_nested_derived_ron.specs.FilterJsonCodecs.{filter_json, filter_json_content_has};
+/// What writes the variants of `Filter` with named fields as JSON.
+struct FilterJsonWriter {}
 
-/// Appends the fields of `Has` between braces. If the write fails, what was written so far is left.
-#[cycle(write_filter_json)]
-fn append_filter_has_fields(
-    value: &Filter,
-    v0: &String,
-    v1: &Option<Box<Filter>>,
-    alloc: Global,
-    d: usize,
-    s: &mut SerJsonState,
-) -> Result<(), AllocError>
-    requires { value.now ≡ Filter-Has v0.now v1.now }
-    ensures ok { OnOk result (Appends s.old.out s.new.out
-        ((filter_json_content_has.codec filter_json).canonical.text d (v0.now, v1.now))) }
-    ensures err { OnErr result (AppendsPart s.old.out s.new.out) }
-{
-    s.st_pre()?;
-    let inner = d.saturating_add(1);
-    let and_is_first = Required::<FilterHasNames<0>, String>::append_fields(
-        &v0, alloc, true, inner, s,
-    )?;
-    append_optional_within(alloc, "and", v1, and_is_first, inner, s)?;
-    s.st_post(d)
-}
+impl FilterJsonWriter {
+    ghost use Rattle.test_nested_derived_ron.specs.declared.filter.Filter.{Has as Filter-Has};
+    ghost use Rattle.test_nested_derived_ron.specs.FilterJsonCodecs.{filter_json, filter_json_content_has};
 
-/// Appends `Has` with its fields. If the write fails, what was written so far is left.
-#[cycle(write_filter_json)]
-fn append_filter_has(
-    value: &Filter,
-    v0: &String,
-    v1: &Option<Box<Filter>>,
-    alloc: Global,
-    d: usize,
-    s: &mut SerJsonState,
-) -> Result<(), AllocError>
-    requires { value.now ≡ Filter-Has v0.now v1.now }
-    ensures ok { OnOk result (Appends s.old.out s.new.out
-        (content_text (codes "Has")
-        ((filter_json_content_has.codec filter_json).canonical.text d (v0.now, v1.now)))) }
-    ensures err { OnErr result (AppendsPart s.old.out s.new.out) }
-{
-    s.st_pre()?;
-    "Has".ser_json(alloc, 0, s)?;
-    s.out.push_str(":")?;
-    append_filter_has_fields(value, v0, v1, alloc, d, s)?;
-    s.st_post(d)
-}
+    /// Appends the fields of `Has`. If the write fails, what was written so far is left.
+    #[cycle(write_filter_json)]
+    fn append_has_fields(
+        value: &Filter,
+        v0: &String,
+        v1: &Option<Box<Filter>>,
+        alloc: Global,
+        d: usize,
+        s: &mut SerJsonState,
+    ) -> Result<(), AllocError>
+        requires { value.now ≡ Filter-Has v0.now v1.now }
+        ensures ok { OnOk result (Appends s.old.out s.new.out
+            ((filter_json_content_has.codec filter_json).canonical.text d (v0.now, v1.now))) }
+        ensures err { OnErr result (AppendsPart s.old.out s.new.out) }
+    {
+        s.st_pre()?;
+        let inner = d.saturating_add(1);
+        let and_is_first = Required::<FilterHasNames<0>, String>::append_fields(
+            &v0, alloc, true, inner, s,
+        )?;
+        append_optional_within(alloc, "and", v1, and_is_first, inner, s)?;
+        s.st_post(d)
+    }
 
-/// Appends `Has` with its fields. If the write fails, `s.out` is unchanged.
-#[cycle(write_filter_json)]
-fn write_filter_has(
-    value: &Filter,
-    v0: &String,
-    v1: &Option<Box<Filter>>,
-    alloc: Global,
-    d: usize,
-    s: &mut SerJsonState,
-) -> Result<(), AllocError>
-    requires { value.now ≡ Filter-Has v0.now v1.now }
-    ensures ok { OnOk result (Appends s.old.out s.new.out
-        (content_text (codes "Has")
-        ((filter_json_content_has.codec filter_json).canonical.text d (v0.now, v1.now)))) }
-    ensures err { OnErr result (Unchanged s.old.out s.new.out) }
-{
-    let start = s.out.len();
-    let written = append_filter_has(value, v0, v1, alloc, d, s);
-    rollback_on_error(&mut s.out, start, written)
+    /// Appends `Has` with its fields. If the write fails, what was written so far is left.
+    #[cycle(write_filter_json)]
+    fn append_has(
+        value: &Filter,
+        v0: &String,
+        v1: &Option<Box<Filter>>,
+        alloc: Global,
+        d: usize,
+        s: &mut SerJsonState,
+    ) -> Result<(), AllocError>
+        requires { value.now ≡ Filter-Has v0.now v1.now }
+        ensures ok { OnOk result (Appends s.old.out s.new.out
+            (content_text (codes "Has")
+            ((filter_json_content_has.codec filter_json).canonical.text d (v0.now, v1.now)))) }
+        ensures err { OnErr result (AppendsPart s.old.out s.new.out) }
+    {
+        s.st_pre()?;
+        "Has".ser_json(alloc, 0, s)?;
+        s.out.push_str(":")?;
+        Self::append_has_fields(value, v0, v1, alloc, d, s)?;
+        s.st_post(d)
+    }
+
+    /// Appends `Has` with its fields. If the write fails, `s.out` is unchanged.
+    #[cycle(write_filter_json)]
+    fn write_has(
+        value: &Filter,
+        v0: &String,
+        v1: &Option<Box<Filter>>,
+        alloc: Global,
+        d: usize,
+        s: &mut SerJsonState,
+    ) -> Result<(), AllocError>
+        requires { value.now ≡ Filter-Has v0.now v1.now }
+        ensures ok { OnOk result (Appends s.old.out s.new.out
+            (content_text (codes "Has")
+            ((filter_json_content_has.codec filter_json).canonical.text d (v0.now, v1.now)))) }
+        ensures err { OnErr result (Unchanged s.old.out s.new.out) }
+    {
+        let start = s.out.len();
+        let written = Self::append_has(value, v0, v1, alloc, d, s);
+        rollback_on_error(&mut s.out, start, written)
+    }
 }
 
 impl WritesJson for Filter {
@@ -254,7 +259,9 @@ impl WritesJson for Filter {
                 let first = &nano_json_schema::Part { of: first };
                 write_pair_within(alloc, "AtLeast", first, second, d, s)
             }
-            Self::Has { field: v0, and: v1 } => write_filter_has(self, v0, v1, alloc, d, s),
+            Self::Has { field: v0, and: v1 } => {
+                FilterJsonWriter::write_has(self, v0, v1, alloc, d, s)
+            }
         }
     }
 }
@@ -310,11 +317,11 @@ impl DeJson for Filter {
 // ---- RON
 
 impl RonCodec for Filter {
-    ghost use Rattle.test_nested_derived_ron.specs.FilterRonCodecs.{filter_ron, filter_ron_agrees};
+    ghost use Rattle.test_nested_derived_ron.specs.FilterRonCodecs.{filter_ron};
 
     ghost ron = { filter_ron };
 
-    ghost agrees = { filter_ron_agrees };
+    ghost agrees = { agreed };
 }
 
 impl NestedRon for Filter {
@@ -326,49 +333,55 @@ impl NestedRon for Filter {
     ghost at = { filter_ron_at };
 }
 
-ghost use Rattle.test_nested_derived_ron.specs.FilterRonCodecs.{filter_ron_of_has};
+/// What writes the variants of `Filter` with named fields as RON.
+struct FilterRonWriter {}
 
-/// Appends `Has`. If the write fails, what was written so far is left.
-#[cycle(write_filter_ron)]
-fn append_filter_has_ron(
-    value: &Filter,
-    v0: &String,
-    v1: &Option<Box<Filter>>,
-    alloc: Global,
-    d: usize,
-    s: &mut SerRonState,
-) -> Result<(), AllocError>
-    requires { value.now ≡ Filter-Has v0.now v1.now }
-    ensures ok { OnOk result
-        (Appends s.old.out s.new.out (filter_ron_of_has d v0.now v1.now)) }
-    ensures err { OnErr result (AppendsPart s.old.out s.new.out) }
-{
-    nano_ron_schema::write_unit_variant("Has", s)?;
-    s.st_pre()?;
-    let inner = d.saturating_add(1);
-    append_required(alloc, "field", v0, inner, s)?;
-    nano_ron_nested::append_optional_within(alloc, "and", v1, inner, s)?;
-    s.st_post(d)
-}
+impl FilterRonWriter {
+    ghost use Rattle.test_nested_derived_ron.specs.declared.filter.Filter.{Has as Filter-Has};
+    ghost use Rattle.test_nested_derived_ron.specs.FilterRonCodecs.{filter_ron_of_has};
 
-/// Appends `Has`. If the write fails, the text is unchanged.
-#[cycle(write_filter_ron)]
-fn write_filter_has_ron(
-    value: &Filter,
-    v0: &String,
-    v1: &Option<Box<Filter>>,
-    alloc: Global,
-    d: usize,
-    s: &mut SerRonState,
-) -> Result<(), AllocError>
-    requires { value.now ≡ Filter-Has v0.now v1.now }
-    ensures ok { OnOk result
-        (Appends s.old.out s.new.out (filter_ron_of_has d v0.now v1.now)) }
-    ensures err { OnErr result (Unchanged s.old.out s.new.out) }
-{
-    let start = s.out.len();
-    let written = append_filter_has_ron(value, v0, v1, alloc, d, s);
-    nano_ron_nested::rollback_on_error(&mut s.out, start, written)
+    /// Appends `Has`. If the write fails, what was written so far is left.
+    #[cycle(write_filter_ron)]
+    fn append_has(
+        value: &Filter,
+        v0: &String,
+        v1: &Option<Box<Filter>>,
+        alloc: Global,
+        d: usize,
+        s: &mut SerRonState,
+    ) -> Result<(), AllocError>
+        requires { value.now ≡ Filter-Has v0.now v1.now }
+        ensures ok { OnOk result
+            (Appends s.old.out s.new.out (filter_ron_of_has d v0.now v1.now)) }
+        ensures err { OnErr result (AppendsPart s.old.out s.new.out) }
+    {
+        nano_ron_schema::write_unit_variant("Has", s)?;
+        s.st_pre()?;
+        let inner = d.saturating_add(1);
+        append_required(alloc, "field", v0, inner, s)?;
+        nano_ron_nested::append_optional_within(alloc, "and", v1, inner, s)?;
+        s.st_post(d)
+    }
+
+    /// Appends `Has`. If the write fails, the text is unchanged.
+    #[cycle(write_filter_ron)]
+    fn write_has(
+        value: &Filter,
+        v0: &String,
+        v1: &Option<Box<Filter>>,
+        alloc: Global,
+        d: usize,
+        s: &mut SerRonState,
+    ) -> Result<(), AllocError>
+        requires { value.now ≡ Filter-Has v0.now v1.now }
+        ensures ok { OnOk result
+            (Appends s.old.out s.new.out (filter_ron_of_has d v0.now v1.now)) }
+        ensures err { OnErr result (Unchanged s.old.out s.new.out) }
+    {
+        let start = s.out.len();
+        let written = Self::append_has(value, v0, v1, alloc, d, s);
+        nano_ron_nested::rollback_on_error(&mut s.out, start, written)
+    }
 }
 
 impl WritesRon for Filter {
@@ -382,7 +395,9 @@ impl WritesRon for Filter {
                 let first = &nano_ron_schema::Part { of: first };
                 nano_ron_nested::write_pair_within(alloc, "AtLeast", first, second, d, s)
             }
-            Self::Has { field: v0, and: v1 } => write_filter_has_ron(self, v0, v1, alloc, d, s),
+            Self::Has { field: v0, and: v1 } => {
+                FilterRonWriter::write_has(self, v0, v1, alloc, d, s)
+            }
         }
     }
 }

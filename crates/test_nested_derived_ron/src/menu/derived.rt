@@ -117,11 +117,11 @@ impl DeBin for Menu {
 // ---- JSON
 
 impl JsonCodec for Menu {
-    ghost use Rattle.test_nested_derived_ron.specs.MenuJsonCodecs.{menu_json, menu_json_agrees};
+    ghost use Rattle.test_nested_derived_ron.specs.MenuJsonCodecs.{menu_json};
 
     ghost json = { menu_json };
 
-    ghost agrees = { menu_json_agrees };
+    ghost agrees = { agreed };
 }
 
 impl NestedJson for Menu {
@@ -133,37 +133,43 @@ impl NestedJson for Menu {
     ghost at = { menu_json_at };
 }
 
-ghost use Rattle.test_nested_derived_ron.specs.MenuJsonCodecs.{menu_json};
+/// What writes `Menu` as JSON.
+struct MenuJsonWriter {}
 
-/// Appends the fields between braces. If the write fails, what was written so far is left.
-#[cycle(write_menu_json)]
-fn append_menu_json(
-    value: &Menu,
-    alloc: Global,
-    d: usize,
-    s: &mut SerJsonState,
-) -> Result<(), AllocError>
-    ensures ok { OnOk result (Appends s.old.out s.new.out (menu_json.canonical.text d value.now)) }
-    ensures err { OnErr result (AppendsPart s.old.out s.new.out) }
-{
-    s.st_pre()?;
-    let inner = d.saturating_add(1);
-    let entries_is_first = Required::<MenuNames<0>, String>::append_fields(
-        &&value.title,
-        alloc,
-        true,
-        inner,
-        s,
-    )?;
-    append_required_within(alloc, "entries", &value.entries, entries_is_first, inner, s)?;
-    s.st_post(d)
+impl MenuJsonWriter {
+    ghost use Rattle.test_nested_derived_ron.specs.MenuJsonCodecs.{menu_json};
+
+    /// Appends the fields between braces. If the write fails, what was written so far is left.
+    #[cycle(write_menu_json)]
+    fn append_record(
+        value: &Menu,
+        alloc: Global,
+        d: usize,
+        s: &mut SerJsonState,
+    ) -> Result<(), AllocError>
+        ensures ok { OnOk result
+            (Appends s.old.out s.new.out (menu_json.canonical.text d value.now)) }
+        ensures err { OnErr result (AppendsPart s.old.out s.new.out) }
+    {
+        s.st_pre()?;
+        let inner = d.saturating_add(1);
+        let entries_is_first = Required::<MenuNames<0>, String>::append_fields(
+            &&value.title,
+            alloc,
+            true,
+            inner,
+            s,
+        )?;
+        append_required_within(alloc, "entries", &value.entries, entries_is_first, inner, s)?;
+        s.st_post(d)
+    }
 }
 
 impl WritesJson for Menu {
     #[cycle(write_menu_json)]
     fn write_json(&self, alloc: Global, d: usize, s: &mut SerJsonState) -> Result<(), AllocError> {
         let start = s.out.len();
-        let written = append_menu_json(self, alloc, d, s);
+        let written = MenuJsonWriter::append_record(self, alloc, d, s);
         rollback_on_error(&mut s.out, start, written)
     }
 }
@@ -213,11 +219,11 @@ impl DeJson for Menu {
 // ---- RON
 
 impl RonCodec for Menu {
-    ghost use Rattle.test_nested_derived_ron.specs.MenuRonCodecs.{menu_ron, menu_ron_agrees};
+    ghost use Rattle.test_nested_derived_ron.specs.MenuRonCodecs.{menu_ron};
 
     ghost ron = { menu_ron };
 
-    ghost agrees = { menu_ron_agrees };
+    ghost agrees = { agreed };
 }
 
 impl NestedRon for Menu {
@@ -229,31 +235,37 @@ impl NestedRon for Menu {
     ghost at = { menu_ron_at };
 }
 
-ghost use Rattle.test_nested_derived_ron.specs.MenuRonCodecs.{menu_ron};
+/// What writes `Menu` as RON.
+struct MenuRonWriter {}
 
-/// Appends the fields between parentheses. If the write fails, what was written so far is left.
-#[cycle(write_menu_ron)]
-fn append_menu_ron(
-    value: &Menu,
-    alloc: Global,
-    d: usize,
-    s: &mut SerRonState,
-) -> Result<(), AllocError>
-    ensures ok { OnOk result (Appends s.old.out s.new.out (menu_ron.canonical.text d value.now)) }
-    ensures err { OnErr result (AppendsPart s.old.out s.new.out) }
-{
-    s.st_pre()?;
-    let inner = d.saturating_add(1);
-    append_required(alloc, "title", &value.title, inner, s)?;
-    nano_ron_nested::append_required_within(alloc, "entries", &value.entries, inner, s)?;
-    s.st_post(d)
+impl MenuRonWriter {
+    ghost use Rattle.test_nested_derived_ron.specs.MenuRonCodecs.{menu_ron};
+
+    /// Appends the fields between parentheses. If the write fails, what was written so far is left.
+    #[cycle(write_menu_ron)]
+    fn append_record(
+        value: &Menu,
+        alloc: Global,
+        d: usize,
+        s: &mut SerRonState,
+    ) -> Result<(), AllocError>
+        ensures ok { OnOk result
+            (Appends s.old.out s.new.out (menu_ron.canonical.text d value.now)) }
+        ensures err { OnErr result (AppendsPart s.old.out s.new.out) }
+    {
+        s.st_pre()?;
+        let inner = d.saturating_add(1);
+        append_required(alloc, "title", &value.title, inner, s)?;
+        nano_ron_nested::append_required_within(alloc, "entries", &value.entries, inner, s)?;
+        s.st_post(d)
+    }
 }
 
 impl WritesRon for Menu {
     #[cycle(write_menu_ron)]
     fn write_ron(&self, alloc: Global, d: usize, s: &mut SerRonState) -> Result<(), AllocError> {
         let start = s.out.len();
-        let written = append_menu_ron(self, alloc, d, s);
+        let written = MenuRonWriter::append_record(self, alloc, d, s);
         nano_ron_nested::rollback_on_error(&mut s.out, start, written)
     }
 }

@@ -190,11 +190,11 @@ impl DeBin for Setting {
 // ---- JSON
 
 impl JsonCodec for Setting {
-    ghost use Rattle.test_nested_derived_ron.specs.SettingJsonCodecs.{setting_json, setting_json_agrees};
+    ghost use Rattle.test_nested_derived_ron.specs.SettingJsonCodecs.{setting_json};
 
     ghost json = { setting_json };
 
-    ghost agrees = { setting_json_agrees };
+    ghost agrees = { agreed };
 }
 
 impl NestedJson for Setting {
@@ -270,11 +270,11 @@ impl DeJson for Setting {
 // ---- RON
 
 impl RonCodec for Setting {
-    ghost use Rattle.test_nested_derived_ron.specs.SettingRonCodecs.{setting_ron, setting_ron_agrees};
+    ghost use Rattle.test_nested_derived_ron.specs.SettingRonCodecs.{setting_ron};
 
     ghost ron = { setting_ron };
 
-    ghost agrees = { setting_ron_agrees };
+    ghost agrees = { agreed };
 }
 
 impl NestedRon for Setting {

@@ -227,11 +227,11 @@ impl DeBin for Quest {
 // ---- JSON
 
 impl JsonCodec for Quest {
-    ghost use Rattle.test_nested_parts.specs.QuestJsonCodecs.{quest_json, quest_json_agrees};
+    ghost use Rattle.test_nested_parts.specs.QuestJsonCodecs.{quest_json};
 
     ghost json = { quest_json };
 
-    ghost agrees = { quest_json_agrees };
+    ghost agrees = { agreed };
 }
 
 impl NestedJson for Quest {
@@ -260,83 +260,88 @@ type QuestJsonVariants = (
     QuestJsonVariants2,
 );
 
-ghost use Rattle.test_nested_parts.specs.declared.quest.Quest.{All as Quest-All};
-ghost use Rattle.test_nested_parts.specs.QuestJsonCodecs.{quest_json, quest_json_content_all};
+/// What writes the variants of `Quest` with named fields as JSON.
+struct QuestJsonWriter {}
 
-/// Appends the fields of `All` between braces. If the write fails, what was written so far is left.
-#[cycle(write_quest_json)]
-fn append_quest_all_fields(
-    value: &Quest,
-    v0: &Vec<Quest>,
-    v1: &Vec<Mode>,
-    v2: &Option<Mode>,
-    alloc: Global,
-    d: usize,
-    s: &mut SerJsonState,
-) -> Result<(), AllocError>
-    requires { value.now ≡ Quest-All v0.now v1.now v2.now }
-    ensures ok { OnOk result (Appends s.old.out s.new.out
-        ((quest_json_content_all.codec quest_json).canonical.text d (v0.now, (v1.now, v2.now)))) }
-    ensures err { OnErr result (AppendsPart s.old.out s.new.out) }
-{
-    s.st_pre()?;
-    let inner = d.saturating_add(1);
-    let modes_is_first = append_required_within(alloc, "quests", v0, true, inner, s)?;
-    let mode_is_first = Required::<QuestAllNames<1>, Vec<Mode>>::append_fields(
-        &v1,
-        alloc,
-        modes_is_first,
-        inner,
-        s,
-    )?;
-    Optional::<QuestAllNames<2>, Mode>::append_fields(&v2, alloc, mode_is_first, inner, s)?;
-    s.st_post(d)
-}
+impl QuestJsonWriter {
+    ghost use Rattle.test_nested_parts.specs.declared.quest.Quest.{All as Quest-All};
+    ghost use Rattle.test_nested_parts.specs.QuestJsonCodecs.{quest_json, quest_json_content_all};
 
-/// Appends `All` with its fields. If the write fails, what was written so far is left.
-#[cycle(write_quest_json)]
-fn append_quest_all(
-    value: &Quest,
-    v0: &Vec<Quest>,
-    v1: &Vec<Mode>,
-    v2: &Option<Mode>,
-    alloc: Global,
-    d: usize,
-    s: &mut SerJsonState,
-) -> Result<(), AllocError>
-    requires { value.now ≡ Quest-All v0.now v1.now v2.now }
-    ensures ok { OnOk result (Appends s.old.out s.new.out
-        (content_text (codes "All")
-        ((quest_json_content_all.codec quest_json).canonical.text d (v0.now, (v1.now, v2.now))))) }
-    ensures err { OnErr result (AppendsPart s.old.out s.new.out) }
-{
-    s.st_pre()?;
-    "All".ser_json(alloc, 0, s)?;
-    s.out.push_str(":")?;
-    append_quest_all_fields(value, v0, v1, v2, alloc, d, s)?;
-    s.st_post(d)
-}
+    /// Appends the fields of `All`. If the write fails, what was written so far is left.
+    #[cycle(write_quest_json)]
+    fn append_all_fields(
+        value: &Quest,
+        v0: &Vec<Quest>,
+        v1: &Vec<Mode>,
+        v2: &Option<Mode>,
+        alloc: Global,
+        d: usize,
+        s: &mut SerJsonState,
+    ) -> Result<(), AllocError>
+        requires { value.now ≡ Quest-All v0.now v1.now v2.now }
+        ensures ok { OnOk result (Appends s.old.out s.new.out
+            ((quest_json_content_all.codec quest_json).canonical.text d (v0.now, (v1.now, v2.now)))) }
+        ensures err { OnErr result (AppendsPart s.old.out s.new.out) }
+    {
+        s.st_pre()?;
+        let inner = d.saturating_add(1);
+        let modes_is_first = append_required_within(alloc, "quests", v0, true, inner, s)?;
+        let mode_is_first = Required::<QuestAllNames<1>, Vec<Mode>>::append_fields(
+            &v1,
+            alloc,
+            modes_is_first,
+            inner,
+            s,
+        )?;
+        Optional::<QuestAllNames<2>, Mode>::append_fields(&v2, alloc, mode_is_first, inner, s)?;
+        s.st_post(d)
+    }
 
-/// Appends `All` with its fields. If the write fails, `s.out` is unchanged.
-#[cycle(write_quest_json)]
-fn write_quest_all(
-    value: &Quest,
-    v0: &Vec<Quest>,
-    v1: &Vec<Mode>,
-    v2: &Option<Mode>,
-    alloc: Global,
-    d: usize,
-    s: &mut SerJsonState,
-) -> Result<(), AllocError>
-    requires { value.now ≡ Quest-All v0.now v1.now v2.now }
-    ensures ok { OnOk result (Appends s.old.out s.new.out
-        (content_text (codes "All")
-        ((quest_json_content_all.codec quest_json).canonical.text d (v0.now, (v1.now, v2.now))))) }
-    ensures err { OnErr result (Unchanged s.old.out s.new.out) }
-{
-    let start = s.out.len();
-    let written = append_quest_all(value, v0, v1, v2, alloc, d, s);
-    rollback_on_error(&mut s.out, start, written)
+    /// Appends `All` with its fields. If the write fails, what was written so far is left.
+    #[cycle(write_quest_json)]
+    fn append_all(
+        value: &Quest,
+        v0: &Vec<Quest>,
+        v1: &Vec<Mode>,
+        v2: &Option<Mode>,
+        alloc: Global,
+        d: usize,
+        s: &mut SerJsonState,
+    ) -> Result<(), AllocError>
+        requires { value.now ≡ Quest-All v0.now v1.now v2.now }
+        ensures ok { OnOk result (Appends s.old.out s.new.out
+            (content_text (codes "All")
+            ((quest_json_content_all.codec quest_json).canonical.text d (v0.now, (v1.now, v2.now))))) }
+        ensures err { OnErr result (AppendsPart s.old.out s.new.out) }
+    {
+        s.st_pre()?;
+        "All".ser_json(alloc, 0, s)?;
+        s.out.push_str(":")?;
+        Self::append_all_fields(value, v0, v1, v2, alloc, d, s)?;
+        s.st_post(d)
+    }
+
+    /// Appends `All` with its fields. If the write fails, `s.out` is unchanged.
+    #[cycle(write_quest_json)]
+    fn write_all(
+        value: &Quest,
+        v0: &Vec<Quest>,
+        v1: &Vec<Mode>,
+        v2: &Option<Mode>,
+        alloc: Global,
+        d: usize,
+        s: &mut SerJsonState,
+    ) -> Result<(), AllocError>
+        requires { value.now ≡ Quest-All v0.now v1.now v2.now }
+        ensures ok { OnOk result (Appends s.old.out s.new.out
+            (content_text (codes "All")
+            ((quest_json_content_all.codec quest_json).canonical.text d (v0.now, (v1.now, v2.now))))) }
+        ensures err { OnErr result (Unchanged s.old.out s.new.out) }
+    {
+        let start = s.out.len();
+        let written = Self::append_all(value, v0, v1, v2, alloc, d, s);
+        rollback_on_error(&mut s.out, start, written)
+    }
 }
 
 impl WritesJson for Quest {
@@ -353,7 +358,7 @@ impl WritesJson for Quest {
                 quests: v0,
                 modes: v1,
                 mode: v2,
-            } => write_quest_all(self, v0, v1, v2, alloc, d, s),
+            } => QuestJsonWriter::write_all(self, v0, v1, v2, alloc, d, s),
             Self::Find(first) => write_variant_other(alloc, "Find", first, d, s),
         }
     }
@@ -410,11 +415,11 @@ impl DeJson for Quest {
 // ---- RON
 
 impl RonCodec for Quest {
-    ghost use Rattle.test_nested_parts.specs.QuestRonCodecs.{quest_ron, quest_ron_agrees};
+    ghost use Rattle.test_nested_parts.specs.QuestRonCodecs.{quest_ron};
 
     ghost ron = { quest_ron };
 
-    ghost agrees = { quest_ron_agrees };
+    ghost agrees = { agreed };
 }
 
 impl NestedRon for Quest {
@@ -426,52 +431,58 @@ impl NestedRon for Quest {
     ghost at = { quest_ron_at };
 }
 
-ghost use Rattle.test_nested_parts.specs.QuestRonCodecs.{quest_ron_of_all};
+/// What writes the variants of `Quest` with named fields as RON.
+struct QuestRonWriter {}
 
-/// Appends `All`. If the write fails, what was written so far is left.
-#[cycle(write_quest_ron)]
-fn append_quest_all_ron(
-    value: &Quest,
-    v0: &Vec<Quest>,
-    v1: &Vec<Mode>,
-    v2: &Option<Mode>,
-    alloc: Global,
-    d: usize,
-    s: &mut SerRonState,
-) -> Result<(), AllocError>
-    requires { value.now ≡ Quest-All v0.now v1.now v2.now }
-    ensures ok { OnOk result
-        (Appends s.old.out s.new.out (quest_ron_of_all d v0.now v1.now v2.now)) }
-    ensures err { OnErr result (AppendsPart s.old.out s.new.out) }
-{
-    write_unit_variant("All", s)?;
-    s.st_pre()?;
-    let inner = d.saturating_add(1);
-    nano_ron_nested::append_required_within(alloc, "quests", v0, inner, s)?;
-    append_required(alloc, "modes", v1, inner, s)?;
-    append_optional(alloc, "mode", v2, inner, s)?;
-    s.st_post(d)
-}
+impl QuestRonWriter {
+    ghost use Rattle.test_nested_parts.specs.declared.quest.Quest.{All as Quest-All};
+    ghost use Rattle.test_nested_parts.specs.QuestRonCodecs.{quest_ron_of_all};
 
-/// Appends `All`. If the write fails, the text is unchanged.
-#[cycle(write_quest_ron)]
-fn write_quest_all_ron(
-    value: &Quest,
-    v0: &Vec<Quest>,
-    v1: &Vec<Mode>,
-    v2: &Option<Mode>,
-    alloc: Global,
-    d: usize,
-    s: &mut SerRonState,
-) -> Result<(), AllocError>
-    requires { value.now ≡ Quest-All v0.now v1.now v2.now }
-    ensures ok { OnOk result
-        (Appends s.old.out s.new.out (quest_ron_of_all d v0.now v1.now v2.now)) }
-    ensures err { OnErr result (Unchanged s.old.out s.new.out) }
-{
-    let start = s.out.len();
-    let written = append_quest_all_ron(value, v0, v1, v2, alloc, d, s);
-    nano_ron_nested::rollback_on_error(&mut s.out, start, written)
+    /// Appends `All`. If the write fails, what was written so far is left.
+    #[cycle(write_quest_ron)]
+    fn append_all(
+        value: &Quest,
+        v0: &Vec<Quest>,
+        v1: &Vec<Mode>,
+        v2: &Option<Mode>,
+        alloc: Global,
+        d: usize,
+        s: &mut SerRonState,
+    ) -> Result<(), AllocError>
+        requires { value.now ≡ Quest-All v0.now v1.now v2.now }
+        ensures ok { OnOk result
+            (Appends s.old.out s.new.out (quest_ron_of_all d v0.now v1.now v2.now)) }
+        ensures err { OnErr result (AppendsPart s.old.out s.new.out) }
+    {
+        write_unit_variant("All", s)?;
+        s.st_pre()?;
+        let inner = d.saturating_add(1);
+        nano_ron_nested::append_required_within(alloc, "quests", v0, inner, s)?;
+        append_required(alloc, "modes", v1, inner, s)?;
+        append_optional(alloc, "mode", v2, inner, s)?;
+        s.st_post(d)
+    }
+
+    /// Appends `All`. If the write fails, the text is unchanged.
+    #[cycle(write_quest_ron)]
+    fn write_all(
+        value: &Quest,
+        v0: &Vec<Quest>,
+        v1: &Vec<Mode>,
+        v2: &Option<Mode>,
+        alloc: Global,
+        d: usize,
+        s: &mut SerRonState,
+    ) -> Result<(), AllocError>
+        requires { value.now ≡ Quest-All v0.now v1.now v2.now }
+        ensures ok { OnOk result
+            (Appends s.old.out s.new.out (quest_ron_of_all d v0.now v1.now v2.now)) }
+        ensures err { OnErr result (Unchanged s.old.out s.new.out) }
+    {
+        let start = s.out.len();
+        let written = Self::append_all(value, v0, v1, v2, alloc, d, s);
+        nano_ron_nested::rollback_on_error(&mut s.out, start, written)
+    }
 }
 
 impl WritesRon for Quest {
@@ -488,7 +499,7 @@ impl WritesRon for Quest {
                 quests: v0,
                 modes: v1,
                 mode: v2,
-            } => write_quest_all_ron(self, v0, v1, v2, alloc, d, s),
+            } => QuestRonWriter::write_all(self, v0, v1, v2, alloc, d, s),
             Self::Find(first) => nano_ron_nested::write_variant_other(alloc, "Find", first, d, s),
         }
     }

@@ -117,11 +117,11 @@ impl DeBin for Scene {
 // ---- JSON
 
 impl JsonCodec for Scene {
-    ghost use Rattle.test_nested_parts.specs.SceneJsonCodecs.{scene_json, scene_json_agrees};
+    ghost use Rattle.test_nested_parts.specs.SceneJsonCodecs.{scene_json};
 
     ghost json = { scene_json };
 
-    ghost agrees = { scene_json_agrees };
+    ghost agrees = { agreed };
 }
 
 impl NestedJson for Scene {
@@ -133,37 +133,43 @@ impl NestedJson for Scene {
     ghost at = { scene_json_at };
 }
 
-ghost use Rattle.test_nested_parts.specs.SceneJsonCodecs.{scene_json};
+/// What writes `Scene` as JSON.
+struct SceneJsonWriter {}
 
-/// Appends the fields between braces. If the write fails, what was written so far is left.
-#[cycle(write_scene_json)]
-fn append_scene_json(
-    value: &Scene,
-    alloc: Global,
-    d: usize,
-    s: &mut SerJsonState,
-) -> Result<(), AllocError>
-    ensures ok { OnOk result (Appends s.old.out s.new.out (scene_json.canonical.text d value.now)) }
-    ensures err { OnErr result (AppendsPart s.old.out s.new.out) }
-{
-    s.st_pre()?;
-    let inner = d.saturating_add(1);
-    let scenes_is_first = Required::<SceneNames<0>, Mode>::append_fields(
-        &&value.mode,
-        alloc,
-        true,
-        inner,
-        s,
-    )?;
-    append_required_within(alloc, "scenes", &value.scenes, scenes_is_first, inner, s)?;
-    s.st_post(d)
+impl SceneJsonWriter {
+    ghost use Rattle.test_nested_parts.specs.SceneJsonCodecs.{scene_json};
+
+    /// Appends the fields between braces. If the write fails, what was written so far is left.
+    #[cycle(write_scene_json)]
+    fn append_record(
+        value: &Scene,
+        alloc: Global,
+        d: usize,
+        s: &mut SerJsonState,
+    ) -> Result<(), AllocError>
+        ensures ok { OnOk result
+            (Appends s.old.out s.new.out (scene_json.canonical.text d value.now)) }
+        ensures err { OnErr result (AppendsPart s.old.out s.new.out) }
+    {
+        s.st_pre()?;
+        let inner = d.saturating_add(1);
+        let scenes_is_first = Required::<SceneNames<0>, Mode>::append_fields(
+            &&value.mode,
+            alloc,
+            true,
+            inner,
+            s,
+        )?;
+        append_required_within(alloc, "scenes", &value.scenes, scenes_is_first, inner, s)?;
+        s.st_post(d)
+    }
 }
 
 impl WritesJson for Scene {
     #[cycle(write_scene_json)]
     fn write_json(&self, alloc: Global, d: usize, s: &mut SerJsonState) -> Result<(), AllocError> {
         let start = s.out.len();
-        let written = append_scene_json(self, alloc, d, s);
+        let written = SceneJsonWriter::append_record(self, alloc, d, s);
         rollback_on_error(&mut s.out, start, written)
     }
 }
@@ -213,11 +219,11 @@ impl DeJson for Scene {
 // ---- RON
 
 impl RonCodec for Scene {
-    ghost use Rattle.test_nested_parts.specs.SceneRonCodecs.{scene_ron, scene_ron_agrees};
+    ghost use Rattle.test_nested_parts.specs.SceneRonCodecs.{scene_ron};
 
     ghost ron = { scene_ron };
 
-    ghost agrees = { scene_ron_agrees };
+    ghost agrees = { agreed };
 }
 
 impl NestedRon for Scene {
@@ -229,31 +235,37 @@ impl NestedRon for Scene {
     ghost at = { scene_ron_at };
 }
 
-ghost use Rattle.test_nested_parts.specs.SceneRonCodecs.{scene_ron};
+/// What writes `Scene` as RON.
+struct SceneRonWriter {}
 
-/// Appends the fields between parentheses. If the write fails, what was written so far is left.
-#[cycle(write_scene_ron)]
-fn append_scene_ron(
-    value: &Scene,
-    alloc: Global,
-    d: usize,
-    s: &mut SerRonState,
-) -> Result<(), AllocError>
-    ensures ok { OnOk result (Appends s.old.out s.new.out (scene_ron.canonical.text d value.now)) }
-    ensures err { OnErr result (AppendsPart s.old.out s.new.out) }
-{
-    s.st_pre()?;
-    let inner = d.saturating_add(1);
-    append_required(alloc, "mode", &value.mode, inner, s)?;
-    nano_ron_nested::append_required_within(alloc, "scenes", &value.scenes, inner, s)?;
-    s.st_post(d)
+impl SceneRonWriter {
+    ghost use Rattle.test_nested_parts.specs.SceneRonCodecs.{scene_ron};
+
+    /// Appends the fields between parentheses. If the write fails, what was written so far is left.
+    #[cycle(write_scene_ron)]
+    fn append_record(
+        value: &Scene,
+        alloc: Global,
+        d: usize,
+        s: &mut SerRonState,
+    ) -> Result<(), AllocError>
+        ensures ok { OnOk result
+            (Appends s.old.out s.new.out (scene_ron.canonical.text d value.now)) }
+        ensures err { OnErr result (AppendsPart s.old.out s.new.out) }
+    {
+        s.st_pre()?;
+        let inner = d.saturating_add(1);
+        append_required(alloc, "mode", &value.mode, inner, s)?;
+        nano_ron_nested::append_required_within(alloc, "scenes", &value.scenes, inner, s)?;
+        s.st_post(d)
+    }
 }
 
 impl WritesRon for Scene {
     #[cycle(write_scene_ron)]
     fn write_ron(&self, alloc: Global, d: usize, s: &mut SerRonState) -> Result<(), AllocError> {
         let start = s.out.len();
-        let written = append_scene_ron(self, alloc, d, s);
+        let written = SceneRonWriter::append_record(self, alloc, d, s);
         nano_ron_nested::rollback_on_error(&mut s.out, start, written)
     }
 }

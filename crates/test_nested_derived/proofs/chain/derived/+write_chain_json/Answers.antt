@@ -12,12 +12,13 @@ use Rattle.test_nested_derived.proofs.chain.derived.+write_chain_json.Goals as g
 pub ChainWritesJson::write_json-rollback_on_error-requires :
     goal.ChainWritesJson::write_json-rollback_on_error-requires
 ChainWritesJson::write_json-rollback_on_error-requires t c =
-    unchanged_by c.append_chain_json-written.result c.args.s.now.out
-    c.append_chain_json-written.new.s.out c.len-start.result _ c.len-start.ensures
-    c.append_chain_json-written.ensures.ok c.append_chain_json-written.ensures.err
+    unchanged_by c.append_record-written.result c.args.s.now.out
+    c.append_record-written.new.s.out c.len-start.result _ c.len-start.ensures
+    c.append_record-written.ensures.ok c.append_record-written.ensures.err
 
-pub append_chain_json-returns-clause-ok : goal.append_chain_json-returns-clause-ok
-append_chain_json-returns-clause-ok t c =
+pub ChainJsonWriter::append_record-returns-clause-ok :
+    goal.ChainJsonWriter::append_record-returns-clause-ok
+ChainJsonWriter::append_record-returns-clause-ok t c =
     let x = c.args.value.now in
     let inner = c.saturating_add-inner.result in
     let before = string_bytes c.args.s.now.out in

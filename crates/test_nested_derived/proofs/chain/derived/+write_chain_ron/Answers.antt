@@ -13,12 +13,12 @@ use Rattle.test_nested_derived.proofs.chain.derived.+write_chain_ron.Goals as go
 pub ChainWritesRon::write_ron-rollback_on_error-requires :
     goal.ChainWritesRon::write_ron-rollback_on_error-requires
 ChainWritesRon::write_ron-rollback_on_error-requires t c =
-    unchanged_by c.append_chain_ron-written.result c.args.s.now.out c.append_chain_ron-written.new.s.out
-    c.len-start.result _ c.len-start.ensures c.append_chain_ron-written.ensures.ok
-    c.append_chain_ron-written.ensures.err
+    unchanged_by c.append_record-written.result c.args.s.now.out c.append_record-written.new.s.out
+    c.len-start.result _ c.len-start.ensures c.append_record-written.ensures.ok
+    c.append_record-written.ensures.err
 
-pub append_chain_ron-returns-clause-ok : goal.append_chain_ron-returns-clause-ok
-append_chain_ron-returns-clause-ok t c =
+pub ChainRonWriter::append_record-returns-clause-ok : goal.ChainRonWriter::append_record-returns-clause-ok
+ChainRonWriter::append_record-returns-clause-ok t c =
     let x = c.args.value.now in
     let inner = c.saturating_add-inner.result in
     let before = string_bytes c.args.s.now.out in

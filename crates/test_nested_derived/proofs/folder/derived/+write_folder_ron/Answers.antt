@@ -13,12 +13,12 @@ use Rattle.test_nested_derived.proofs.folder.derived.+write_folder_ron.Goals as 
 pub FolderWritesRon::write_ron-rollback_on_error-requires :
     goal.FolderWritesRon::write_ron-rollback_on_error-requires
 FolderWritesRon::write_ron-rollback_on_error-requires t c =
-    unchanged_by c.append_folder_ron-written.result c.args.s.now.out c.append_folder_ron-written.new.s.out
-    c.len-start.result _ c.len-start.ensures c.append_folder_ron-written.ensures.ok
-    c.append_folder_ron-written.ensures.err
+    unchanged_by c.append_record-written.result c.args.s.now.out c.append_record-written.new.s.out
+    c.len-start.result _ c.len-start.ensures c.append_record-written.ensures.ok
+    c.append_record-written.ensures.err
 
-pub append_folder_ron-returns-clause-ok : goal.append_folder_ron-returns-clause-ok
-append_folder_ron-returns-clause-ok t c =
+pub FolderRonWriter::append_record-returns-clause-ok : goal.FolderRonWriter::append_record-returns-clause-ok
+FolderRonWriter::append_record-returns-clause-ok t c =
     let x = c.args.value.now in
     let inner = c.saturating_add-inner.result in
     let before = string_bytes c.args.s.now.out in

@@ -10,15 +10,15 @@ use Rattle.nano_ron_nested.proofs.WrittenLaws.{written_between}
 use Rattle.test_nested_derived.proofs.RuleRonCodecsLaws.{rule_ron_field_when_condition, rule_ron_field_when_then, rule_ron_field_when_otherwise}
 use Rattle.test_nested_derived.proofs.rule.derived.+write_rule_ron.Goals as goal
 
-pub write_rule_when_ron-rollback_on_error-requires :
-    goal.write_rule_when_ron-rollback_on_error-requires
-write_rule_when_ron-rollback_on_error-requires t c =
-    unchanged_by c.append_rule_when_ron-written.result c.args.s.now.out c.append_rule_when_ron-written.new.s.out
-    c.len-start.result _ c.len-start.ensures c.append_rule_when_ron-written.ensures.ok
-    c.append_rule_when_ron-written.ensures.err
+pub RuleRonWriter::write_when-rollback_on_error-requires :
+    goal.RuleRonWriter::write_when-rollback_on_error-requires
+RuleRonWriter::write_when-rollback_on_error-requires t c =
+    unchanged_by c.append_when-written.result c.args.s.now.out c.append_when-written.new.s.out
+    c.len-start.result _ c.len-start.ensures c.append_when-written.ensures.ok
+    c.append_when-written.ensures.err
 
-pub append_rule_when_ron-returns-clause-ok : goal.append_rule_when_ron-returns-clause-ok
-append_rule_when_ron-returns-clause-ok t c =
+pub RuleRonWriter::append_when-returns-clause-ok : goal.RuleRonWriter::append_when-returns-clause-ok
+RuleRonWriter::append_when-returns-clause-ok t c =
     let inner = c.saturating_add-inner.result in
     let before = string_bytes c.args.s.now.out in
     let named = string_bytes c.write_unit_variant.new.s.out in

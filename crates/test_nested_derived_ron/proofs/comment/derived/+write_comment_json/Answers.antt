@@ -5,19 +5,20 @@ use Rattle.nano_grammar.specs.FieldCodec.{field_text}
 use Rattle.nano_text.proofs.RollbackLaws.{unchanged_by}
 use Rattle.nano_json_schema.specs.FieldCodecs.{json_fields}
 use Rattle.nano_json_schema.proofs.WrittenFields.{more_fields}
-use Rattle.nano_json_nested.proofs.WrittenLaws.{written_between}
-use Rattle.test_nested_derived_ron.proofs.CommentJsonCodecsLaws.{comment_json_text, comment_json_none_so_far, comment_json_field_author, comment_json_field_text, comment_json_field_votes, comment_json_field_pinned, comment_json_field_quoted, comment_json_field_answers}
+use Rattle.nano_json_nested.proofs.WrittenLaws.{written_between, none_so_far}
+use Rattle.test_nested_derived_ron.proofs.CommentJsonCodecsLaws.{comment_json_text, comment_json_field_author, comment_json_field_text, comment_json_field_votes, comment_json_field_pinned, comment_json_field_quoted, comment_json_field_answers}
 use Rattle.test_nested_derived_ron.proofs.comment.derived.+write_comment_json.Goals as goal
 
 pub CommentWritesJson::write_json-rollback_on_error-requires :
     goal.CommentWritesJson::write_json-rollback_on_error-requires
 CommentWritesJson::write_json-rollback_on_error-requires t c =
-    unchanged_by c.append_comment_json-written.result c.args.s.now.out
-    c.append_comment_json-written.new.s.out c.len-start.result _ c.len-start.ensures
-    c.append_comment_json-written.ensures.ok c.append_comment_json-written.ensures.err
+    unchanged_by c.append_record-written.result c.args.s.now.out
+    c.append_record-written.new.s.out c.len-start.result _ c.len-start.ensures
+    c.append_record-written.ensures.ok c.append_record-written.ensures.err
 
-pub append_comment_json-returns-clause-ok : goal.append_comment_json-returns-clause-ok
-append_comment_json-returns-clause-ok t c =
+pub CommentJsonWriter::append_record-returns-clause-ok :
+    goal.CommentJsonWriter::append_record-returns-clause-ok
+CommentJsonWriter::append_record-returns-clause-ok t c =
     let x = c.args.value.now in
     let inner = c.saturating_add-inner.result in
     let before = string_bytes c.args.s.now.out in
@@ -29,8 +30,8 @@ append_comment_json-returns-clause-ok t c =
     opened (string_bytes c.append_fields.new.s.out) (string_bytes c.append_fields-3.new.s.out)
     (c.in_ok-text_is_first.ensures.ok) (c.in_ok-text_is_first.ensures.next) (more_fields (field_text json_fields inner) c.in_ok-text_is_first.text_is_first c.in_ok-votes_is_first.votes_is_first (comment_json_field_text x) (comment_json_field_votes x)
     (string_bytes c.append_fields.new.s.out) (string_bytes c.append_fields-2.new.s.out) (string_bytes c.append_fields-3.new.s.out)
-    (c.in_ok-votes_is_first.ensures.ok) (c.in_ok-votes_is_first.ensures.next) (c.in_ok-pinned_is_first.ensures.ok))) (comment_json_none_so_far true c.in_ok-text_is_first.text_is_first c.in_ok-pinned_is_first.pinned_is_first (comment_json_field_author x) ((comment_json_field_text x) ++ (comment_json_field_votes x))
-    (c.in_ok-text_is_first.ensures.next) (comment_json_none_so_far c.in_ok-text_is_first.text_is_first c.in_ok-votes_is_first.votes_is_first c.in_ok-pinned_is_first.pinned_is_first (comment_json_field_text x) (comment_json_field_votes x)
+    (c.in_ok-votes_is_first.ensures.ok) (c.in_ok-votes_is_first.ensures.next) (c.in_ok-pinned_is_first.ensures.ok))) (none_so_far true c.in_ok-text_is_first.text_is_first c.in_ok-pinned_is_first.pinned_is_first (comment_json_field_author x) ((comment_json_field_text x) ++ (comment_json_field_votes x))
+    (c.in_ok-text_is_first.ensures.next) (none_so_far c.in_ok-text_is_first.text_is_first c.in_ok-votes_is_first.votes_is_first c.in_ok-pinned_is_first.pinned_is_first (comment_json_field_text x) (comment_json_field_votes x)
     (c.in_ok-votes_is_first.ensures.next) (c.in_ok-pinned_is_first.ensures.next))) (more_fields (field_text json_fields inner) c.in_ok-pinned_is_first.pinned_is_first c.in_ok-quoted_is_first.quoted_is_first (comment_json_field_pinned x) ((comment_json_field_quoted x) ++ (comment_json_field_answers x))
     (string_bytes c.append_fields-3.new.s.out) (string_bytes c.append_fields-4.new.s.out) (string_bytes c.append_required_within.new.s.out)
     (c.in_ok-quoted_is_first.ensures.ok) (c.in_ok-quoted_is_first.ensures.next) (more_fields (field_text json_fields inner) c.in_ok-quoted_is_first.quoted_is_first c.in_ok-answers_is_first.answers_is_first (comment_json_field_quoted x) (comment_json_field_answers x)

@@ -13,12 +13,12 @@ use Rattle.test_nested_derived_ron.proofs.comment.derived.+write_comment_ron.Goa
 pub CommentWritesRon::write_ron-rollback_on_error-requires :
     goal.CommentWritesRon::write_ron-rollback_on_error-requires
 CommentWritesRon::write_ron-rollback_on_error-requires t c =
-    unchanged_by c.append_comment_ron-written.result c.args.s.now.out c.append_comment_ron-written.new.s.out
-    c.len-start.result _ c.len-start.ensures c.append_comment_ron-written.ensures.ok
-    c.append_comment_ron-written.ensures.err
+    unchanged_by c.append_record-written.result c.args.s.now.out c.append_record-written.new.s.out
+    c.len-start.result _ c.len-start.ensures c.append_record-written.ensures.ok
+    c.append_record-written.ensures.err
 
-pub append_comment_ron-returns-clause-ok : goal.append_comment_ron-returns-clause-ok
-append_comment_ron-returns-clause-ok t c =
+pub CommentRonWriter::append_record-returns-clause-ok : goal.CommentRonWriter::append_record-returns-clause-ok
+CommentRonWriter::append_record-returns-clause-ok t c =
     let x = c.args.value.now in
     let inner = c.saturating_add-inner.result in
     let before = string_bytes c.args.s.now.out in

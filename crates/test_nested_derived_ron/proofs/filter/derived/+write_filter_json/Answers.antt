@@ -5,22 +5,23 @@ use Rattle.nano_grammar.specs.FieldCodec.{field_text}
 use Rattle.nano_text.proofs.RollbackLaws.{unchanged_by}
 use Rattle.nano_json_schema.specs.FieldCodecs.{json_fields}
 use Rattle.nano_json_schema.proofs.WrittenFields.{more_fields}
-use Rattle.nano_json_nested.proofs.WrittenLaws.{written_between}
-use Rattle.test_nested_derived_ron.proofs.FilterJsonCodecsLaws.{filter_json_between, filter_json_field_has_field, filter_json_field_has_and}
+use Rattle.nano_json_nested.proofs.WrittenLaws.{written_between, named_between}
+use Rattle.test_nested_derived_ron.proofs.FilterJsonCodecsLaws.{filter_json_field_has_field, filter_json_field_has_and}
 use Rattle.std.specs.Prelude.{codes}
 use Rattle.nano_json_tokens.specs.Written.{written_text}
 use Rattle.test_nested_derived_ron.specs.FilterJsonCodecs.{filter_json, filter_json_content_has}
 use Rattle.test_nested_derived_ron.proofs.filter.derived.+write_filter_json.Goals as goal
 
-pub write_filter_has-rollback_on_error-requires :
-    goal.write_filter_has-rollback_on_error-requires
-write_filter_has-rollback_on_error-requires t c =
-    unchanged_by c.append_filter_has-written.result c.args.s.now.out
-    c.append_filter_has-written.new.s.out c.len-start.result _ c.len-start.ensures
-    c.append_filter_has-written.ensures.ok c.append_filter_has-written.ensures.err
+pub FilterJsonWriter::write_has-rollback_on_error-requires :
+    goal.FilterJsonWriter::write_has-rollback_on_error-requires
+FilterJsonWriter::write_has-rollback_on_error-requires t c =
+    unchanged_by c.append_has-written.result c.args.s.now.out
+    c.append_has-written.new.s.out c.len-start.result _ c.len-start.ensures
+    c.append_has-written.ensures.ok c.append_has-written.ensures.err
 
-pub append_filter_has_fields-returns-clause-ok : goal.append_filter_has_fields-returns-clause-ok
-append_filter_has_fields-returns-clause-ok t c =
+pub FilterJsonWriter::append_has_fields-returns-clause-ok :
+    goal.FilterJsonWriter::append_has_fields-returns-clause-ok
+FilterJsonWriter::append_has_fields-returns-clause-ok t c =
     let inner = c.saturating_add-inner.result in
     let before = string_bytes c.args.s.now.out in
     let opened = string_bytes c.st_pre.new.self.out in
@@ -33,13 +34,13 @@ append_filter_has_fields-returns-clause-ok t c =
     (string_bytes c.append_optional_within.new.s.out) (string_bytes c.st_post.new.self.out) c.saturating_add-inner.ensures
     c.in_ok-st_pre.ensures.ok row) c.st_post.ensures.ok)
 
-pub append_filter_has-returns-clause-ok : goal.append_filter_has-returns-clause-ok
-append_filter_has-returns-clause-ok t c =
+pub FilterJsonWriter::append_has-returns-clause-ok : goal.FilterJsonWriter::append_has-returns-clause-ok
+FilterJsonWriter::append_has-returns-clause-ok t c =
     on_ok_weaker c.st_post.result
-    (filter_json_between (written_text (codes "Has"))
+    (named_between (written_text (codes "Has"))
     ((filter_json_content_has.codec filter_json).canonical.text c.args.d (c.args.v0.now, c.args.v1.now))
     (string_bytes c.args.s.now.out) (string_bytes c.st_pre.new.self.out)
     (string_bytes c.ser_json.new.s.out) (string_bytes c.push_str.new.self)
-    (string_bytes c.append_filter_has_fields.new.s.out) (string_bytes c.st_post.new.self.out)
+    (string_bytes c.append_has_fields.new.s.out) (string_bytes c.st_post.new.self.out)
     c.in_ok-st_pre.ensures.ok c.in_ok-ser_json.ensures.ok c.in_ok-push_str.ensures.bytes
-    c.in_ok-append_filter_has_fields.ensures.ok) c.st_post.ensures.ok
+    c.in_ok-append_has_fields.ensures.ok) c.st_post.ensures.ok

@@ -10,15 +10,15 @@ use Rattle.nano_ron_nested.proofs.WrittenLaws.{written_between}
 use Rattle.test_nested_derived_ron.proofs.FilterRonCodecsLaws.{filter_ron_field_has_field, filter_ron_field_has_and}
 use Rattle.test_nested_derived_ron.proofs.filter.derived.+write_filter_ron.Goals as goal
 
-pub write_filter_has_ron-rollback_on_error-requires :
-    goal.write_filter_has_ron-rollback_on_error-requires
-write_filter_has_ron-rollback_on_error-requires t c =
-    unchanged_by c.append_filter_has_ron-written.result c.args.s.now.out c.append_filter_has_ron-written.new.s.out
-    c.len-start.result _ c.len-start.ensures c.append_filter_has_ron-written.ensures.ok
-    c.append_filter_has_ron-written.ensures.err
+pub FilterRonWriter::write_has-rollback_on_error-requires :
+    goal.FilterRonWriter::write_has-rollback_on_error-requires
+FilterRonWriter::write_has-rollback_on_error-requires t c =
+    unchanged_by c.append_has-written.result c.args.s.now.out c.append_has-written.new.s.out
+    c.len-start.result _ c.len-start.ensures c.append_has-written.ensures.ok
+    c.append_has-written.ensures.err
 
-pub append_filter_has_ron-returns-clause-ok : goal.append_filter_has_ron-returns-clause-ok
-append_filter_has_ron-returns-clause-ok t c =
+pub FilterRonWriter::append_has-returns-clause-ok : goal.FilterRonWriter::append_has-returns-clause-ok
+FilterRonWriter::append_has-returns-clause-ok t c =
     let inner = c.saturating_add-inner.result in
     let before = string_bytes c.args.s.now.out in
     let named = string_bytes c.write_unit_variant.new.s.out in

@@ -12,12 +12,13 @@ use Rattle.test_nested_derived_ron.proofs.menu.derived.+write_menu_json.Goals as
 pub MenuWritesJson::write_json-rollback_on_error-requires :
     goal.MenuWritesJson::write_json-rollback_on_error-requires
 MenuWritesJson::write_json-rollback_on_error-requires t c =
-    unchanged_by c.append_menu_json-written.result c.args.s.now.out
-    c.append_menu_json-written.new.s.out c.len-start.result _ c.len-start.ensures
-    c.append_menu_json-written.ensures.ok c.append_menu_json-written.ensures.err
+    unchanged_by c.append_record-written.result c.args.s.now.out
+    c.append_record-written.new.s.out c.len-start.result _ c.len-start.ensures
+    c.append_record-written.ensures.ok c.append_record-written.ensures.err
 
-pub append_menu_json-returns-clause-ok : goal.append_menu_json-returns-clause-ok
-append_menu_json-returns-clause-ok t c =
+pub MenuJsonWriter::append_record-returns-clause-ok :
+    goal.MenuJsonWriter::append_record-returns-clause-ok
+MenuJsonWriter::append_record-returns-clause-ok t c =
     let x = c.args.value.now in
     let inner = c.saturating_add-inner.result in
     let before = string_bytes c.args.s.now.out in

@@ -13,12 +13,12 @@ use Rattle.test_nested_derived_ron.proofs.menu.derived.+write_menu_ron.Goals as 
 pub MenuWritesRon::write_ron-rollback_on_error-requires :
     goal.MenuWritesRon::write_ron-rollback_on_error-requires
 MenuWritesRon::write_ron-rollback_on_error-requires t c =
-    unchanged_by c.append_menu_ron-written.result c.args.s.now.out c.append_menu_ron-written.new.s.out
-    c.len-start.result _ c.len-start.ensures c.append_menu_ron-written.ensures.ok
-    c.append_menu_ron-written.ensures.err
+    unchanged_by c.append_record-written.result c.args.s.now.out c.append_record-written.new.s.out
+    c.len-start.result _ c.len-start.ensures c.append_record-written.ensures.ok
+    c.append_record-written.ensures.err
 
-pub append_menu_ron-returns-clause-ok : goal.append_menu_ron-returns-clause-ok
-append_menu_ron-returns-clause-ok t c =
+pub MenuRonWriter::append_record-returns-clause-ok : goal.MenuRonWriter::append_record-returns-clause-ok
+MenuRonWriter::append_record-returns-clause-ok t c =
     let x = c.args.value.now in
     let inner = c.saturating_add-inner.result in
     let before = string_bytes c.args.s.now.out in

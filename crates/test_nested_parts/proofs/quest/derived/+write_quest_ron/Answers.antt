@@ -10,15 +10,15 @@ use Rattle.nano_ron_nested.proofs.WrittenLaws.{written_between}
 use Rattle.test_nested_parts.proofs.QuestRonCodecsLaws.{quest_ron_field_all_quests, quest_ron_field_all_modes, quest_ron_field_all_mode}
 use Rattle.test_nested_parts.proofs.quest.derived.+write_quest_ron.Goals as goal
 
-pub write_quest_all_ron-rollback_on_error-requires :
-    goal.write_quest_all_ron-rollback_on_error-requires
-write_quest_all_ron-rollback_on_error-requires t c =
-    unchanged_by c.append_quest_all_ron-written.result c.args.s.now.out c.append_quest_all_ron-written.new.s.out
-    c.len-start.result _ c.len-start.ensures c.append_quest_all_ron-written.ensures.ok
-    c.append_quest_all_ron-written.ensures.err
+pub QuestRonWriter::write_all-rollback_on_error-requires :
+    goal.QuestRonWriter::write_all-rollback_on_error-requires
+QuestRonWriter::write_all-rollback_on_error-requires t c =
+    unchanged_by c.append_all-written.result c.args.s.now.out c.append_all-written.new.s.out
+    c.len-start.result _ c.len-start.ensures c.append_all-written.ensures.ok
+    c.append_all-written.ensures.err
 
-pub append_quest_all_ron-returns-clause-ok : goal.append_quest_all_ron-returns-clause-ok
-append_quest_all_ron-returns-clause-ok t c =
+pub QuestRonWriter::append_all-returns-clause-ok : goal.QuestRonWriter::append_all-returns-clause-ok
+QuestRonWriter::append_all-returns-clause-ok t c =
     let inner = c.saturating_add-inner.result in
     let before = string_bytes c.args.s.now.out in
     let named = string_bytes c.write_unit_variant.new.s.out in

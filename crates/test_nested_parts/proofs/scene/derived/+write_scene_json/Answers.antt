@@ -12,12 +12,13 @@ use Rattle.test_nested_parts.proofs.scene.derived.+write_scene_json.Goals as goa
 pub SceneWritesJson::write_json-rollback_on_error-requires :
     goal.SceneWritesJson::write_json-rollback_on_error-requires
 SceneWritesJson::write_json-rollback_on_error-requires t c =
-    unchanged_by c.append_scene_json-written.result c.args.s.now.out
-    c.append_scene_json-written.new.s.out c.len-start.result _ c.len-start.ensures
-    c.append_scene_json-written.ensures.ok c.append_scene_json-written.ensures.err
+    unchanged_by c.append_record-written.result c.args.s.now.out
+    c.append_record-written.new.s.out c.len-start.result _ c.len-start.ensures
+    c.append_record-written.ensures.ok c.append_record-written.ensures.err
 
-pub append_scene_json-returns-clause-ok : goal.append_scene_json-returns-clause-ok
-append_scene_json-returns-clause-ok t c =
+pub SceneJsonWriter::append_record-returns-clause-ok :
+    goal.SceneJsonWriter::append_record-returns-clause-ok
+SceneJsonWriter::append_record-returns-clause-ok t c =
     let x = c.args.value.now in
     let inner = c.saturating_add-inner.result in
     let before = string_bytes c.args.s.now.out in

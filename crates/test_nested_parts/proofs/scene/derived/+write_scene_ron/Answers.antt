@@ -13,12 +13,12 @@ use Rattle.test_nested_parts.proofs.scene.derived.+write_scene_ron.Goals as goal
 pub SceneWritesRon::write_ron-rollback_on_error-requires :
     goal.SceneWritesRon::write_ron-rollback_on_error-requires
 SceneWritesRon::write_ron-rollback_on_error-requires t c =
-    unchanged_by c.append_scene_ron-written.result c.args.s.now.out c.append_scene_ron-written.new.s.out
-    c.len-start.result _ c.len-start.ensures c.append_scene_ron-written.ensures.ok
-    c.append_scene_ron-written.ensures.err
+    unchanged_by c.append_record-written.result c.args.s.now.out c.append_record-written.new.s.out
+    c.len-start.result _ c.len-start.ensures c.append_record-written.ensures.ok
+    c.append_record-written.ensures.err
 
-pub append_scene_ron-returns-clause-ok : goal.append_scene_ron-returns-clause-ok
-append_scene_ron-returns-clause-ok t c =
+pub SceneRonWriter::append_record-returns-clause-ok : goal.SceneRonWriter::append_record-returns-clause-ok
+SceneRonWriter::append_record-returns-clause-ok t c =
     let x = c.args.value.now in
     let inner = c.saturating_add-inner.result in
     let before = string_bytes c.args.s.now.out in

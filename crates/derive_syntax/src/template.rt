@@ -2,11 +2,13 @@
 
 use std::alloc::{AllocError, Global};
 
-/// What stands in the holes of a template.
+/// What stands in the holes of templates. That memory ran out is reported when one is filled.
 #[derive(Drop)]
 pub struct Holes {
     alloc: Global,
     holes: Vec<Hole>,
+    /// Whether there was no memory for one of them.
+    lacks_memory: bool,
 }
 
 /// A hole. No name begins with another one.
@@ -22,17 +24,32 @@ impl Holes {
         Holes {
             alloc,
             holes: Vec::new(alloc),
+            lacks_memory: false,
         }
     }
 
     /// Puts a text into the hole of this name.
-    pub fn put(&mut self, name: &'static str, text: &str) -> Result<(), AllocError> {
+    pub fn put(&mut self, name: &'static str, text: &str) {
+        if self.add(name, text).is_err() {
+            self.lacks_memory = true;
+        }
+    }
+
+    /// Puts a text into the hole of this name, if there is memory for it.
+    fn add(&mut self, name: &'static str, text: &str) -> Result<(), AllocError> {
         let text = String::from_str(self.alloc, text)?;
         Ok(self.holes.push(Hole { name, text })?)
     }
 
     /// A template with what stands in its holes.
+    ///
+    /// # Errors
+    ///
+    /// There was no memory for one of them, or there is none for the text.
     pub fn fill(&self, template: &str) -> Result<String, AllocError> {
+        if self.lacks_memory {
+            return Err(AllocError);
+        }
         let mut text = String::new(self.alloc);
         for (i, part) in template.split('$').enumerate() {
             if i == 0 {
