@@ -5,7 +5,7 @@
 #
 # Each step is printed with its seconds; the first that fails ends it with status 1 and is named. The last
 # line is `N passed, M failed`, as that of `rt ci` is. The steps are tools/check_*.py, list_calls.py and
-# what_to_read.py; whether each generated file is what derive_files or write_types.py writes; 1,600 drawn
+# what_to_read.py; whether each generated file is what derive_files or write_types.py writes; 2,000 drawn
 # definitions, of which check_impls.py reads what derive wrote; 20,000 drawn cases (fuzz.py), always the same;
 # and worked.tsv with memory refused. It takes about a minute, and runs the programs that `rt ci` left in out/
 # of conformance_run, derive_files and two examples; it wants cc and Python too.
