@@ -2,9 +2,9 @@
 """Compares crates/example_document with the rows of crates/example_document/data/documents.tsv.
 
 A row has the program's words, its input, its status, and what it prints: standard output, or the
-first line of standard error. The row is judged by the program that `rt ci` built, and by documents
-as docs/FORMATS.md and docs/ERRORS.md have them, over the model's tokens. Where Python's own `json`
-reads the input too, what is written is read by it to the same value. Prints what differs, and fails.
+first line of standard error. The row is judged by the program that `rt ci` built, and by the model's
+documents. Where Python's own `json` reads the input too, what is written is read by it to the same
+value. Prints what differs, and fails.
 """
 import json
 import os
@@ -13,13 +13,16 @@ import sys
 
 TOOLS = os.path.dirname(os.path.abspath(__file__))
 sys.path.insert(0, TOOLS)
+from model import type_tree, values
 from model.cases import rows, unescape, words_of
 from model.json_format import JsonForm, JsonReader
-from model.reader import BLOCK, CURLY, Fault
+from model.reader import Fault
 
 CRATE = os.path.join(TOOLS, "..", "crates", "example_document")
 PROGRAM = os.path.join(CRATE, "out", "example_document")
-LEVELS = 128
+DATA = os.path.join(CRATE, "data", "documents.tsv")
+JSON = type_tree.parse("Json")
+LIST, OBJECT = 6, 7  # variants of a document
 sys.setrecursionlimit(20000)
 SHOWN = 200
 
@@ -28,103 +31,62 @@ class Nothing(Exception):
     """A pointer leads nowhere."""
 
 
-class Object(list):
-    """Names with their documents, in order."""
-
-
-class Decimal(str):
-    """The text of a number with a point or an exponent."""
-
-
-def read(reader, limit, levels):
-    """The document that the pending token begins, with so many of the limit's levels left."""
-    if levels == 0:
-        raise reader.err_range(f"levels>{limit}")
-    if reader.tok not in ("BlockOpen", "CurlyOpen"):
-        if reader.tok not in ("Null", "Bool", "Str", "U64", "I64", "F64"):
-            raise reader.err_token("value")
-        value = Decimal(reader.value) if reader.tok == "F64" else reader.value
-        reader.next_tok()
-        return value
-    brackets, of_all = (BLOCK, []) if reader.tok == "BlockOpen" else (CURLY, Object())
-    reader.open(brackets)
-    while reader.tok != brackets.close:
-        inner = read if brackets is BLOCK else entry
-        of_all.append(inner(reader, limit, levels - 1))
-        reader.eat_comma(brackets)
-    reader.close(brackets)
-    return of_all
-
-
-def entry(reader, limit, levels):
-    """A name, a colon and a document. Where no level is left for that, the name is too much."""
-    if levels == 0:
-        raise reader.err_range(f"levels>{limit}")
-    name = reader.as_string()
-    reader.next_tok()
-    reader.ask("Colon", ":")
-    return name, read(reader, limit, levels)
-
-
-def whole(text, limit=LEVELS):
+def whole(text, limit=JSON.limit):
     """The document of at most so many levels that a whole text is."""
-    reader = JsonReader(text)
-    reader.next_tok()
-    document = read(reader, limit, limit)
-    reader.end_of_input()
-    return document
+    return values.deserialize(JsonReader(text), JSON._replace(levels=limit, limit=limit), True)
 
 
-def written(value, indent, level=1):
-    """The canonical text, or with each item and entry on a line of its own, two spaces to a level."""
-    if isinstance(value, Decimal):
-        return str(value)
-    if isinstance(value, str):
-        return JsonForm.quoted(value)
-    if not isinstance(value, list):
-        return "null" if value is None else str(value).lower()
-    opened, closed = "{}" if isinstance(value, Object) else "[]"
-    if not value:
-        return opened + closed
-    colon = ": " if indent else ":"
-    texts = [JsonForm.quoted(part[0]) + colon + written(part[1], indent, level + 1)
-             if isinstance(value, Object) else written(part, indent, level + 1) for part in value]
-    if not indent:
-        return opened + ",".join(texts) + closed
+def compact(document):
+    """The canonical text."""
+    return values.write(JsonForm, JSON, document)
+
+
+def indented(document, level=1):
+    """The text with each item and entry on a line of its own, two spaces to a level."""
+    variant, (held,) = document
+    if variant not in (LIST, OBJECT) or not held:
+        return compact(document)
+    opened, closed = "{}" if variant == OBJECT else "[]"
+    texts = [f"{JsonForm.quoted(part[0])}: {indented(part[1], level + 1)}" if variant == OBJECT
+             else indented(part, level + 1) for part in held]
     lines = ",".join("\n" + "  " * level + text for text in texts)
     return opened + lines + "\n" + "  " * (level - 1) + closed
 
 
-def place(value, token):
+def place(document, token):
     """Where a token of a pointer leads: the place of an item, or of the last entry of that name."""
-    if isinstance(value, Object):
-        names = [name.replace("~", "~0").replace("/", "~1") for name, _ in value]
+    variant, (held,) = document
+    if variant == OBJECT:
+        names = [name.replace("~", "~0").replace("/", "~1") for name, _ in held]
         if token in names:
             return len(names) - 1 - names[::-1].index(token)
-    elif isinstance(value, list) and token in map(str, range(len(value))):
+    elif variant == LIST and token in map(str, range(len(held))):
         return int(token)
     raise Nothing
 
 
-def found(value, pointer):
+def found(document, pointer):
     """What a pointer leads to."""
     if pointer and not pointer.startswith("/"):
         raise Nothing
     for token in pointer.split("/")[1:]:
-        inner = value[place(value, token)]
-        value = inner[1] if isinstance(value, Object) else inner
-    return value
+        variant, (held,) = document
+        inner = held[place(document, token)]
+        document = inner[1] if variant == OBJECT else inner
+    return document
 
 
-def replaced(value, tokens, new):
+def replaced(document, tokens, new):
     """The document with another one in the place that a pointer's tokens lead to."""
     if not tokens:
         return new
-    at = place(value, tokens[0])
-    if isinstance(value, Object):
-        name, inner = value[at]
-        return Object(value[:at] + [(name, replaced(inner, tokens[1:], new))] + value[at + 1:])
-    return value[:at] + [replaced(value[at], tokens[1:], new)] + value[at + 1:]
+    at, (variant, (held,)) = place(document, tokens[0]), document
+    inner = held[at]
+    if variant == OBJECT:
+        inner = inner[0], replaced(inner[1], tokens[1:], new)
+    else:
+        inner = replaced(inner, tokens[1:], new)
+    return variant, ((*held[:at], inner, *held[at + 1:]),)
 
 
 def shown(text, line, column):
@@ -145,7 +107,7 @@ def answer_of(words, text):
         if word == "set":
             found(document, more[0])
             document = replaced(document, more[0].split("/")[1:], whole(more[1]))
-        return "0", written(document, word == "indent") + "\n"
+        return "0", (indented if word == "indent" else compact)(document) + "\n"
     except Fault as fault:
         message, *place = fault.args
         return "1", f"input:{shown(text, *place)}: {message}\n"
@@ -170,7 +132,7 @@ def by_python(text):
 
 def main():
     faults, count = 0, 0
-    for where, (words, data, status, output) in rows(os.path.join(CRATE, "data", "documents.tsv")):
+    for where, (words, data, status, output) in rows(DATA):
         words, data = words_of(words), unescape(data)
         wanted = status, unescape(output).decode()
         answers = {"the program": of_program(words, data), "the model": answer_of(words, data.decode())}
@@ -187,4 +149,5 @@ def main():
     return faults != 0
 
 
-sys.exit(main())
+if __name__ == "__main__":
+    sys.exit(main())

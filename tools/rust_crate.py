@@ -44,13 +44,13 @@ def read_parts(ported):
         if len(set(parts)) < 2:
             return ported(reader, parts)
         found = []
-        reader.open(reader.PARTS)
+        reader.ask(*reader.PARTS.open)
         for part in parts:
             try:
                 found.append(values.read(reader, part))
             finally:
                 reader.eat_comma(reader.PARTS)
-        reader.close(reader.PARTS)
+        reader.ask(*reader.PARTS.close)
         return tuple(found)
     return crate
 

@@ -20,7 +20,8 @@ FOLDER = pathlib.Path("crates/conformance_types/src/types")
 WIDTH, ARRAY, SHORT = 100, 60, 10  # the columns of a line, of an array in one, and of items that share lines
 MOST = 14  # types of a function
 # What reads a type of these formats, and the module that it stands in.
-CALLS = {"all": ("of_type", "reads"), "bytes": ("of_bytes", "reads"), "json": ("of_json_alone", "reads")}
+CALLS = {"all": ("of_type", "reads"), "bytes": ("of_bytes", "reads"), "json": ("of_json_alone", "reads"),
+         "bytes-json": ("of_bytes_and_json", "reads")}
 CONTAINERS = {"Vec": "of_list", "Option": "of_option", "Holder": "of_holder", "HashSet": "of_hash_set",
               "BTreeSet": "of_tree_set", "HashMap": "of_hash_map", "BTreeMap": "of_tree_map"}
 ARGUMENTS = ["alloc: Global", "format: Format", "kind: &str", "input: &[u8]"]

@@ -1,9 +1,9 @@
 """Bytes of a type, drawn at random: any code of a value, of which many are not what is written."""
-from . import kinds
+from model.type_tree import opened
 
 
 def code(draw, kind):
-    """A code of a value of this type."""
+    """A code of a value of this type, which is one of the model's."""
     return CODES[kind.kind](draw, kind)
 
 
@@ -21,6 +21,11 @@ def boolean(draw, _):
 
 def text(draw, _):
     data = draw.text().encode()
+    return number(len(data), 8) + data
+
+
+def decimal(draw, _):
+    data = draw.decimal().encode()
     return number(len(data), 8) + data
 
 
@@ -52,15 +57,14 @@ def enum(draw, kind):
     place = draw.variant(kind.variants)
     if draw.chance(0.03):
         return number(draw.pick((len(kind.variants), 255, 256, 65535)), 2)
-    _, content = kind.variants[place]
-    return number(place, 2) + (code(draw, content) if content else b"")
+    return number(place, 2) + code(draw, kind.variants[place].content)
 
 
 def nested(draw, kind):
     """A struct or an enum that contains itself."""
-    return draw.nested(lambda: code(draw, kinds.defined(kind.name)))
+    return draw.nested(lambda: code(draw, opened(kind)))
 
 
-CODES = {"int": integer, "bool": boolean, "String": text, "unit": lambda draw, kind: b"", "option": option,
-         "box": parts, "list": items, "map": items, "tuple": parts, "struct": struct, "enum": enum,
-         "nested": nested}
+CODES = {"int": integer, "bool": boolean, "String": text, "decimal": decimal, "unit": parts, "option": option,
+         "list": items, "linked": items, "set": items, "map": items, "entries": items, "array": parts, "tuple": parts,
+         "struct": struct, "enum": enum, "document": enum, "nested": nested}

@@ -75,6 +75,11 @@ class Draw:
         run += self.pick(("", ".", ".5", ".25"))
         return run + self.pick(("", "", "e5", "E-5", "e", "e+5", "e-"))
 
+    def decimal(self):
+        """A decimal, now and then one that is none."""
+        good = self.pick(("0.5", "-1.25", "+01.50", "1.", "-.5", "1e5", "1.5E-3", "12.0e00"))
+        return good if self.chance(0.8) else self.pick((self.float(), ".5", "1", "1.5 ", "", "1.5x"))
+
     def hexadecimal(self, number):
         digits = f"{number:04x}"
         return digits if self.chance(0.7) else digits.upper()

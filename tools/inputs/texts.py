@@ -1,5 +1,5 @@
 """JSON and RON of a type, drawn at random: a spelling of a value, with gaps between its tokens."""
-from . import kinds
+from model.type_tree import opened
 
 GAPS = ("", "", "", "", "", " ", "\n", "\t", "\r\n", "  ")
 COMMENTS = ("/**/", "// x\n", "/*x*/", "/* a\n *//**/", "/*/ */", "//\n", "/***/")
@@ -32,13 +32,12 @@ class Spelling:
         return self.none if is_none else self.value(kind.parts[0])
 
     def of_nested(self, kind):
-        return self.draw.nested(lambda: self.value(kinds.defined(kind.name)))
-
-    def of_box(self, kind):
-        return self.value(kind.parts[0])
+        return self.draw.nested(lambda: self.value(opened(kind)))
 
     def of_list(self, kind):
         return self.between("[", [self.value(kind.parts[0]) for _ in range(self.draw.few())], "]")
+
+    of_linked = of_set = of_list
 
     def of_map(self, kind):
         key, value = kind.parts
@@ -47,11 +46,15 @@ class Spelling:
             pairs.append(f"{pairs[0].rpartition(':')[0] or '0'}:{self.value(value)}")
         return self.between("{", pairs, "}")
 
+    of_entries = of_map
+
     def of_tuple(self, kind):
         parts = [self.value(part) for part in kind.parts]
         if self.draw.chance(0.03):
             parts = parts[1:] if self.draw.chance(0.5) else parts + parts[:1]
         return self.between(self.tuple[0], parts, self.tuple[1])
+
+    of_array = of_tuple
 
     def between(self, opening, items, closing):
         """A list of items that are spelled already."""
@@ -63,10 +66,11 @@ class Spelling:
         """Fields in any order, some twice; one that can be missing may be."""
         spelled = []
         for field in fields:
-            if not self.draw.chance(0.35 if field.can_miss else 0.02):
-                spelled.append(self.field(self.draw.pick(field.names), self.value(field.type)))
+            names = [field.name, *field.aliases]
+            if not self.draw.chance(0.02 if field.kind == "required" else 0.35):
+                spelled.append(self.field(self.draw.pick(names), self.value(field.type)))
             if self.draw.chance(0.08):
-                spelled.append(self.field(self.draw.pick(field.names), self.value(field.type)))
+                spelled.append(self.field(self.draw.pick(names), self.value(field.type)))
         if self.draw.chance(self.other_fields):
             spelled.append(self.other_field())
         if self.draw.chance(0.4):
@@ -94,9 +98,16 @@ class Json(Spelling):
     def of_enum(self, kind):
         name, content = kind.variants[self.draw.variant(kind.variants)]
         name = self.name_of(name if self.draw.chance(0.96) else self.draw.text())
-        if content is None:
+        if content.kind == "unit":
             return name
         return f"{{{self.gap()}{name}{self.gap()}:{self.value(content)}{self.gap()}}}"
+
+    def of_document(self, kind):
+        _, content = kind.variants[self.draw.variant(kind.variants)]
+        return self.value(content.parts[0])
+
+    def of_decimal(self, _):
+        return self.draw.decimal()
 
     def other_field(self):
         return self.field(self.draw.pick(("q", "", "valu", "values", "none")), self.gap() + self.skipped(3))
@@ -136,7 +147,7 @@ class Ron(Spelling):
     def of_enum(self, kind):
         name, content = kind.variants[self.draw.variant(kind.variants)]
         name = name if self.draw.chance(0.96) else self.draw.pick(("D", "AA", "true", "None", "b"))
-        return name if content is None else name + self.value(content)
+        return name if content.kind == "unit" else name + self.value(content)
 
     def other_field(self):
         return self.field("q", " 1")

@@ -22,7 +22,6 @@ class Outcome(NamedTuple):
     answer: str
 
 
-UNKNOWN = Outcome("unknown", "")
 FORMATS = {"bin", "json", "ron"}
 run = program.run
 
@@ -32,7 +31,7 @@ def answer(format, type, input):
     try:
         return Outcome("is", escape(answered(format, type, input)))
     except type_tree.Unknown:
-        return UNKNOWN
+        return Outcome("unknown", "")
     except binary.BinFault as fault:
         return Outcome("error", fault.column())
     except program.Rejected as error:

@@ -1,4 +1,5 @@
 """Bytes: how a value is read and written. Section Binary of docs/FORMATS.md."""
+from .lexemes import is_decimal
 from .type_tree import Type, collected, opened
 
 
@@ -49,8 +50,11 @@ def read(type, data, at):
     if kind == "bool":  # 0 is false, any other true
         value, at = number(data, at, 1)
         return value != 0, at
-    if kind == "String":
-        return text(data, *number(data, at, 8))
+    if kind in ("String", "decimal"):  # the text of a decimal is one, and another is the kind Own
+        value, end = text(data, *number(data, at, 8))
+        if kind == "decimal" and not is_decimal(value):
+            raise BinFault("Own", at, 0, len(data))
+        return value, end
     if kind == "option":  # 1 and an item, and any other byte is none
         value, at = number(data, at, 1)
         if value != 1:
@@ -59,7 +63,7 @@ def read(type, data, at):
         return (item,), at
     if kind in ("unit", "tuple", "array", "struct"):
         return read_parts(type.parts, data, at)
-    if kind == "enum":  # the place of the variant as a u16; another is the kind Own
+    if kind in ("enum", "document"):  # the place of the variant as a u16; another is the kind Own
         index, end = number(data, at, 2)
         if index >= len(type.variants):
             raise BinFault("Own", at, 0, len(data))
@@ -77,7 +81,7 @@ def read(type, data, at):
 
 def item_of(type):
     """What stands in a container, one after another: of a map its pairs."""
-    return Type("tuple", type.parts) if type.kind == "map" else type.parts[0]
+    return Type("tuple", type.parts) if type.kind in ("map", "entries") else type.parts[0]
 
 
 def read_parts(parts, data, at):
@@ -96,14 +100,16 @@ def write(type, value):
         return value.to_bytes(type.size, "little", signed=type.low < 0)
     if kind == "bool":
         return bytes([value])
-    if kind == "String":
+    if kind in ("String", "decimal"):
         return size(value.encode()) + value.encode()
     if kind == "option":
         return b"\1" + write(type.parts[0], value[0]) if value else b"\0"
     if kind in ("unit", "tuple", "array", "struct"):
         return write_parts(type.parts, value)
-    if kind == "enum":
+    if kind in ("enum", "document"):
         index, content = value
+        if kind == "document" and index == 3 and content[0] >= 0:  # a number that is not below 0 is a U64
+            index = 2
         return index.to_bytes(2, "little") + write(type.variants[index].content, content)
     if kind == "nested":
         return write(opened(type), value)

@@ -13,8 +13,13 @@ EXTEND = {0x9BE, 0x9D7, 0xB3E, 0xB57, 0xBBE, 0xBD7, 0xCC2, 0xCD5, 0xCD6, 0xD3E, 
           0x16FF0, 0x16FF1, 0x1D165, 0x1D166, *range(0x1D16D, 0x1D173)}
 
 
-def shown(char, quote):
-    """A character between quotes of this kind: what cannot be printed alone is `\\u{..}`."""
+def shown(text, quote):
+    """A text, or a character as one, between quotes of this kind."""
+    return quote + "".join(piece(char, quote) for char in text) + quote
+
+
+def piece(char, quote):
+    """A character between such quotes: what cannot be printed alone is `\\u{..}`."""
     if char in ESCAPES:
         return ESCAPES[char]
     if char == quote:
@@ -23,13 +28,3 @@ def shown(char, quote):
     if extends or not char.isprintable():
         return f"\\u{{{ord(char):x}}}"
     return char
-
-
-def shown_char(char):
-    """A character between apostrophes."""
-    return f"'{shown(char, chr(39))}'"
-
-
-def shown_text(text):
-    """A text between quotes."""
-    return '"' + "".join(shown(char, '"') for char in text) + '"'

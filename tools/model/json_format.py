@@ -8,6 +8,7 @@ from . import values
 from .reader import BLOCK, CURLY, Reader
 
 WORD = re.compile("[A-Za-z_]+")
+DOCUMENT = ("Null", "Bool", "U64", "I64", "F64", "Str", "BlockOpen", "CurlyOpen")  # what begins each variant
 WORDS = {"true": ("Bool", True), "false": ("Bool", False), "null": ("Null", None)}
 ESCAPES = {8: "\\b", 12: "\\f", 10: "\\n", 13: "\\r", 9: "\\t", 92: "\\\\", 34: '\\"'}
 ESCAPES = {**{code: f"\\u{code:04x}" for code in (*range(32), 127)}, **ESCAPES}
@@ -64,6 +65,13 @@ class JsonReader(Reader):
         """Null is `None`."""
         return self.tok == "Null"
 
+    def document(self, variants):
+        """A `Json`: the pending token says its variant."""
+        if self.tok not in DOCUMENT:
+            raise self.err_token("value")
+        index = DOCUMENT.index(self.tok)
+        return index, (values.read(self, variants[index].content.parts[0]),)
+
     def variant(self, variants):
         """Str with a name; or `{` Str with a name, Colon, the content, `}` with no comma before it."""
         has_content = self.tok == "CurlyOpen"
@@ -79,7 +87,7 @@ class JsonReader(Reader):
             if variant.name == name and (variant.content.kind != "unit") == has_content:
                 content = values.read(self, variant.content) if has_content else ()
                 if has_content:
-                    self.close(CURLY)
+                    self.ask(*CURLY.close)
                 return index, content
         raise self.error(f"Enum not defined {name}")
 

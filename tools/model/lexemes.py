@@ -19,6 +19,11 @@ def number(text, at, end):
     return kind, value, run.end()
 
 
+def is_decimal(text):
+    """Whether all of a text is an F64 of JSON, whose numbers start with a sign or a digit."""
+    return text[:1] != "." and number(text, 0, len(text)) == ("F64", text, len(text))
+
+
 def integer(digits):
     """The kind and the value of digits with a sign or none, or no kind where no token has the value."""
     if len(digits.lstrip("+-0")) > 20:

@@ -7,27 +7,23 @@ import re
 from typing import NamedTuple
 
 from . import lexemes
-from .debug import shown_char
+from .debug import shown
 
 WHITE = re.compile("[ \t\r\n]*")
 GREATEST = 2**64 - 1  # usize::MAX
 
 
 class Brackets(NamedTuple):
-    """Two tokens around others, and the words for them."""
+    """Two tokens around others, each with the word for it."""
 
-    open: str
-    open_word: str
-    close: str
-    close_word: str
+    open: tuple
+    close: tuple
 
 
-BLOCK = Brackets("BlockOpen", "[", "BlockClose", "]")
-CURLY = Brackets("CurlyOpen", "{", "CurlyClose", "}")
-PAREN = Brackets("ParenOpen", "(", "ParenClose", ")")
-PUNCTUATION = {":": "Colon", ",": "Comma"}
-for _pair in (BLOCK, CURLY):
-    PUNCTUATION.update({_pair.open_word: _pair.open, _pair.close_word: _pair.close})
+BLOCK = Brackets(("BlockOpen", "["), ("BlockClose", "]"))
+CURLY = Brackets(("CurlyOpen", "{"), ("CurlyClose", "}"))
+PAREN = Brackets(("ParenOpen", "("), ("ParenClose", ")"))
+PUNCTUATION = {":": "Colon", ",": "Comma"} | {word: tok for pair in (BLOCK, CURLY) for tok, word in pair}
 
 
 class Fault(Exception):
@@ -83,7 +79,7 @@ class Reader:
         if self.tok in ("U64", "I64", "Bool"):
             return f"{self.tok}({str(self.value).lower()})"
         if self.tok == "Char":
-            return f"Char({shown_char(self.value)})"
+            return f"Char({shown(self.value, chr(39))})"
         return self.tok
 
     # ---- tokens
@@ -93,7 +89,7 @@ class Reader:
         return WHITE.match(self.text, at, end).end()
 
     def cut(self, at, end):
-        """The kind and the value of the token at this place, and the place after it."""
+        """The kind and the value of the token at this place, and the place after it. Each format has `cut_word`."""
         char = self.text[at]
         if char in self.PUNCTUATION:
             return self.PUNCTUATION[char], None, at + 1
@@ -107,10 +103,6 @@ class Reader:
         if tok is None:
             raise self.err_parse(what)
         return tok, value, self.at
-
-    def cut_word(self, at, end):
-        """The same of a token that is no punctuation, number or string."""
-        raise NotImplementedError
 
     def next_tok(self):
         """Cuts the next token; after an error the reader is at the end of its text."""
@@ -139,18 +131,11 @@ class Reader:
             raise self.err_token(what)
         self.next_tok()
 
-    def open(self, brackets):
-        """Takes the opening bracket."""
-        self.ask(brackets.open, brackets.open_word)
-
-    def close(self, brackets):
-        """Takes the closing bracket."""
-        self.ask(brackets.close, brackets.close_word)
-
     def eat_comma(self, brackets):
         """Takes a comma, or leaves the closing bracket."""
-        if self.tok != brackets.close:
-            self.ask("Comma", f", or {brackets.close_word}")
+        tok, word = brackets.close
+        if self.tok != tok:
+            self.ask("Comma", f", or {word}")
 
     def next_colon(self):
         """Takes the pending token, and then a colon."""

@@ -102,7 +102,7 @@ def called(format, reader, word):
     elif name.startswith("eat_comma_"):
         reader.eat_comma(BRACKETS[name[10:]])
     elif rest in ("open", "close"):
-        getattr(reader, rest)(BRACKETS[part])
+        reader.ask(*getattr(BRACKETS[part], rest))
     else:
         raise type_tree.Unknown(word)
     return "ok"

@@ -1,7 +1,7 @@
 """Tokens of TOML. The table Tokens in the section TOML of docs/FORMATS.md."""
 import re
 
-from .debug import shown_text
+from .debug import shown
 from .lexemes import integer
 from .reader import Reader
 
@@ -52,16 +52,11 @@ class TomlReader(Reader):
             if piece is None:  # the end of the text, or a backslash before it
                 raise self.err_lexeme("string", end)
             at, found = piece.end(), piece.group()
-            if found[0] == "\\":
-                pieces.append(found[1])
-            elif found[0] != '"':
-                pieces.append(found)
-            elif quotes == 1:  # the first quote ends it
+            if found[0] == '"' and quotes == 1:  # the first quote ends it
                 return "Str", "".join(pieces), piece.start() + 1
-            elif len(found) == 3:
+            if found == '"""':
                 return "Str", "".join(pieces), at
-            else:
-                pieces.append(found)
+            pieces.append(found[1] if found[0] == "\\" else found)
 
     def number(self, at, end):
         """An integer, a decimal, a date, or a signed nan or inf."""
@@ -95,7 +90,7 @@ class TomlReader(Reader):
     def shown(self):
         """The token in its debug form."""
         if self.tok in ("Ident", "Str", "F64", "Date"):
-            return f"{self.tok}({shown_text(self.value)})"
+            return f"{self.tok}({shown(self.value, chr(34))})"
         if self.tok in ("Nan", "Inf"):
             return f"{self.tok}({str(self.value).lower()})"
         return super().shown()

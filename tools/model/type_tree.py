@@ -23,6 +23,7 @@ class Type(NamedTuple):
     high: int = 0
     name: str = ""  # of one that contains itself
     levels: int = 0  # how many it may have
+    limit: int = 0  # how many the one has that is in no other of it
 
 
 class Field(NamedTuple):
@@ -49,43 +50,32 @@ class Unknown(Exception):
 
 BITS = {"8": 8, "16": 16, "32": 32, "64": 64, "128": 128, "size": 64}
 ALIASES = {
-    "Lists": "(Vec<i32>, LinkedList<i32>, HashSet<i32>, BTreeSet<i32>)",
-    "Pair": "Option<([u32; 4], String)>",
-    "Limits": "HashMap<String, u64>",
-    "Tags": "BTreeMap<String, Vec<String>>",
-    "UserId": "u64",
-    "HallName": "String",
-    "Seat": "(HallName, u16)",
-    "Visits": "BTreeMap<UserId, u32>",
-    "Greetings": "HashMap<Role, String>",
-    "Seats": "BTreeSet<Seat>",
-    "Test": "[i32; 1]",
-    "Plain": "i32",
-    "Point": "(i32, i32, String)",
-    "Entry": "(u64, Option<String>, Point, bool)",
-    "Tagged": "Tagged<i32, String>",
-    "Reply": "Reply<i32, String>",
+    "Test": "[i32; 1]", "Plain": "i32",
+    "Lists": "(Vec<i32>, LinkedList<i32>, HashSet<i32>, BTreeSet<i32>)", "Pair": "Option<([u32; 4], String)>",
+    "Limits": "HashMap<String, u64>", "Tags": "BTreeMap<String, Vec<String>>",
+    "UserId": "u64", "HallName": "String", "Seat": "(HallName, u16)", "Seats": "BTreeSet<Seat>",
+    "Visits": "BTreeMap<UserId, u32>", "Greetings": "HashMap<Role, String>",
+    "Point": "(i32, i32, String)", "Entry": "(u64, Option<String>, Point, bool)",
+    "Tagged": "Tagged<i32, String>", "Reply": "Reply<i32, String>",
 }
 
 # The types of the tables in docs/FORMATS.md. A field is `name|alias: type`, and its default if it has
 # one. A skipped field is neither read nor written, so it is no field here. A variant is a name, its
 # parts or its fields.
 STRUCTS = {
-    "Item": ["value: i32", "note: Option<String>"],
-    "Holder": ["x: A"],
+    "Item": ["value: i32", "note: Option<String>"], "Holder": ["x: A"],
     "Server": ["host: String", "port: u16", "tags: Tags", "limits: Limits", "note: Option<String>"],
     "Site": ["host: String", ("port: u16", 8080), ("first: String", "index"),
              ("tags: Vec<String>", ()), ("owner: Option<String>", ())],
     "Moved": ["host|hostname: String", "contact|owner|admin: Option<String>", ("port|tcp_port: u16", 8080)],
     "Proxy": ["host|hostname: String", "port: Option<u16>"],
     "Clock": [("offset: i32", -5), ("running: bool", True)],
-    "Marker": [], "Empty": [], "Count": [],
+    "Marker": [], "Empty": [], "Count": [], "Menu": ["title: String", "entries: BTreeMap<String, Menu>"],
     "Trip": ["there: Marker", "new: Option<Empty>", "steps: Vec<Step>"],
     "Hall": ["visits: Visits", "greetings: Greetings", "taken: Seats"],
     "Tagged": ["first: A", "other: Option<B>", "more: Vec<A>", ("times: u32", 1)],
     "Chain": ["number: u32", "next: Option<Box<Chain>>"], "Folder": ["name: String", "folders: Vec<Folder>"],
     "Branch": ["then: Statement", "otherwise: Option<Box<Statement>>"],
-    "Menu": ["title: String", "entries: BTreeMap<String, Menu>"],
 }
 ENUMS = {
     "Choice": ["A", "B(i32, String)", {"C": ["a: i32", "b: String"]}],
@@ -101,17 +91,18 @@ ENUMS = {
     "Tree": ["Leaf(i32)", "Node(Vec<Tree>)"], "Statement": ["Assign(String, i32)", "Block(Vec<Statement>)", "If(Box<Branch>)"],
     "Expression": ["Number(i64)", "Negated(Box<Expression>)", "Sum(Box<Expression>, Box<Expression>)"],
     "Rule": ["Always", "From(u8)", {"When": ["condition: Box<Rule>", "then: Box<Rule>", "otherwise: Option<Box<Rule>>"]}],
+    "Json": ["Null(())", "Bool(bool)", "U64(u64)", "I64(i64)", "Decimal(decimal)", "Text(String)", "List(Vec<Json>)",
+             "Object(entries<String, Json>)"],
 }
 # These contain themselves; a value of each has at most so many levels, itself being the first.
-NESTED = dict.fromkeys(("Tree", "Expression", "Chain", "Folder", "Menu", "Statement"), 128) | {"Rule": 5}
+NESTED = dict.fromkeys(("Tree", "Expression", "Chain", "Folder", "Menu", "Statement", "Json"), 128) | {"Rule": 5}
 STRICT = {"Proxy"}  # these are `deny_unknown`
 PARAMETERS = {"Holder": 1, "Tagged": 2, "Reply": 2}
-# These have one format alone.
-ONLY = {"Command": "bin", "Message": "json", "u128": "bin", "i128": "bin"}
+ONLY = {"Command": "bin", "Message": "json", "u128": "bin", "i128": "bin", "Json": "bin json"}  # not all formats
 
 NAME = re.compile(r"\s*([A-Za-z]\w*|[()\[\]<>,;]|\d+)")
 CONTAINERS = {"Option": "option", "Vec": "list", "LinkedList": "linked",
-              "HashSet": "set", "BTreeSet": "set", "HashMap": "map", "BTreeMap": "map"}
+              "HashSet": "set", "BTreeSet": "set", "HashMap": "map", "BTreeMap": "map", "entries": "entries"}
 
 
 @functools.lru_cache(maxsize=None)
@@ -131,7 +122,7 @@ def parse(name):
 
 def has(name, format):
     """Whether the type with this name has a format."""
-    return all(ONLY.get(word, format) == format for word in NAME.findall(name))
+    return all(format in ONLY.get(word, format) for word in NAME.findall(name))
 
 
 def read(words, given):
@@ -169,16 +160,16 @@ def named(word, parts, given):
     if word in given:
         return given[word]
     if word in NESTED and not parts:
-        return Type("nested", name=word, levels=NESTED[word])
+        return Type("nested", name=word, levels=NESTED[word], limit=NESTED[word])
     if word[1:] in BITS and word[0] in "ui" and not parts and word != "isize":
         bits = BITS[word[1:]]
         low, high = (0, 2**bits - 1) if word[0] == "u" else (-(2 ** (bits - 1)), 2 ** (bits - 1) - 1)
         return Type("int", size=bits // 8, low=low, high=high)
-    if word in ("bool", "String") and not parts:
+    if word in ("bool", "String", "decimal") and not parts:
         return Type(word)
     if word == "Box" and len(parts) == 1:  # it is what it holds
         return parts[0]
-    if word in CONTAINERS and len(parts) == (2 if word.endswith("Map") else 1):
+    if word in CONTAINERS and len(parts) == (2 if word.endswith(("Map", "entries")) else 1):
         return Type(CONTAINERS[word], parts)
     if word in ALIASES and not parts:
         return parse(ALIASES[word])
@@ -192,7 +183,8 @@ def defined(word, given):
     if word in STRUCTS:
         return struct(STRUCTS[word], given)._replace(strict=word in STRICT)
     if word in ENUMS:
-        return Type("enum", variants=tuple(variant(line, given) for line in ENUMS[word]))
+        kind = "document" if word == "Json" else "enum"
+        return Type(kind, variants=tuple(variant(line, given) for line in ENUMS[word]))
     raise Unknown(word)
 
 

@@ -3,15 +3,17 @@
 See What each type asks, in order, in docs/ERRORS.md, and the tables of types in docs/FORMATS.md.
 """
 from .reader import BLOCK, CURLY, GREATEST
-from .type_tree import NESTED, collected, opened
+from .type_tree import collected, opened
 
 
 def read(reader, type):
     """The value that the tokens from the pending one on begin with. Each token of it is taken."""
     kind = type.kind
-    if kind in ("int", "bool", "String"):
+    if kind in ("int", "bool", "String", "decimal"):
         if kind == "int":
             value = reader.i64_range(type.low, type.high) if type.low else reader.u64_range(type.high)
+        elif kind == "decimal":  # asked for where it is pending
+            value = reader.value
         else:
             value = reader.as_bool() if kind == "bool" else reader.as_string()
         reader.next_tok()
@@ -29,11 +31,12 @@ def read(reader, type):
         return read_fields(reader, type.fields, type.strict)
     if kind == "enum":
         return reader.variant(type.variants)
+    if kind == "document":
+        return reader.document(type.variants)
     if kind == "nested":
-        if type.levels == 0:
-            raise reader.err_range(f"levels>{NESTED[type.name]}")
+        test_levels(reader, type)
         return read(reader, opened(type))
-    if kind == "map":
+    if kind in ("map", "entries"):
         return collected(kind, read_list(reader, CURLY, lambda: read_pair(reader, *type.parts)))
     return collected(kind, read_list(reader, BLOCK, lambda: read(reader, type.parts[0])))
 
@@ -41,16 +44,24 @@ def read(reader, type):
 def read_list(reader, brackets, read_item):
     """LIST: one comma between two items, and optionally one after the last."""
     items = []
-    reader.open(brackets)
-    while reader.tok != brackets.close:
+    reader.ask(*brackets.open)
+    while reader.tok != brackets.close[0]:
         items.append(read_item())
         reader.eat_comma(brackets)
-    reader.close(brackets)
+    reader.ask(*brackets.close)
     return items
 
 
+def test_levels(reader, type):
+    """A value inside as many others as its type may have levels is out of range."""
+    if type.kind == "nested" and type.levels == 0:
+        raise reader.err_range(f"levels>{type.limit}")
+
+
 def read_pair(reader, key, value):
-    """A key, Colon, a value."""
+    """A key, Colon, a value. The levels of a document are tested before its name."""
+    if value.name == "Json":
+        test_levels(reader, value)
     name = read(reader, key)
     reader.ask("Colon", ":")
     return name, read(reader, value)
@@ -59,11 +70,11 @@ def read_pair(reader, key, value):
 def read_parts(reader, parts):
     """LIST of exactly these parts."""
     values = []
-    reader.open(reader.PARTS)
+    reader.ask(*reader.PARTS.open)
     for part in parts:
         values.append(read(reader, part))
         reader.eat_comma(reader.PARTS)
-    reader.close(reader.PARTS)
+    reader.ask(*reader.PARTS.close)
     return tuple(values)
 
 
@@ -71,7 +82,7 @@ def read_fields(reader, fields, strict):
     """LIST of named fields in any order. Missing ones are looked for after the closing bracket."""
     known = {name: field for field in fields for name in (field.name, *field.aliases)}
     found = {}  # of the names of a field that occur, the last one counts
-    reader.open(reader.FIELDS)
+    reader.ask(*reader.FIELDS.open)
     while reader.tok == reader.NAME:
         name = reader.value
         if name in known:
@@ -80,7 +91,7 @@ def read_fields(reader, fields, strict):
         else:
             reader.unknown_field(name, strict)
         reader.eat_comma(reader.FIELDS)
-    reader.close(reader.FIELDS)
+    reader.ask(*reader.FIELDS.close)
     values = []
     for field in fields:
         if field.name not in found and field.kind == "required":
@@ -105,8 +116,12 @@ def write(form, type, value, level=0):
         return str(value).lower()
     if kind == "String":
         return form.quoted(value)
+    if kind == "decimal":
+        return value
     if kind == "unit":
         return form.UNIT
+    if kind == "document":
+        return write(form, type.variants[value[0]].content.parts[0], value[1][0], level)
     if kind == "option":
         return write(form, type.parts[0], value[0], level) if value else form.NONE
     if kind == "tuple":
@@ -122,7 +137,7 @@ def write(form, type, value, level=0):
     deeper = min(level + 1, GREATEST)
     if kind == "array":
         return write_parts(form, type.parts, value, deeper)
-    if kind == "map":
+    if kind in ("map", "entries"):
         key, item = type.parts
         return form.pairs([f"{write(form, key, k, deeper)}:{write(form, item, v, deeper)}"
                            for k, v in value], level)

@@ -1,6 +1,6 @@
 //! The intended differences from the Rust crate, by the names that docs/DIFFERENCES.md gives them.
 
-use conformance_types::Outcome;
+use conformance_types::{Outcome, place_of};
 
 /// The names, as they stand in docs/DIFFERENCES.md.
 const NAMES: &[&str] = &[
@@ -35,19 +35,9 @@ pub(crate) fn is_named(rust_crate: &str, names: &str, outcome: &Outcome) -> bool
 /// Whether each of the names, parted by `; `, is known.
 fn are_known(names: &str) -> bool {
     for name in names.split("; ") {
-        if !is_known(name) {
+        if place_of(NAMES, name).is_none() {
             return false;
         }
     }
     true
-}
-
-/// Whether this is the name of an intended difference.
-fn is_known(name: &str) -> bool {
-    for known in NAMES {
-        if *known == name {
-            return true;
-        }
-    }
-    false
 }

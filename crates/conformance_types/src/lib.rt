@@ -27,4 +27,5 @@ pub use calls::outcome_of_kind;
 pub use errors::code;
 pub use fields::{escape, unescape};
 pub use format::Format;
+pub use named::place_of;
 pub use outcome::Outcome;

@@ -11,7 +11,7 @@ pub(crate) fn named<T: Copy>(table: &[(&str, T)], name: &str) -> Option<T> {
 }
 
 /// The place of a name in a table, where it stands there.
-pub(crate) fn place_of(names: &[&str], name: &str) -> Option<usize> {
+pub fn place_of(names: &[&str], name: &str) -> Option<usize> {
     let mut place = 0usize;
     for word in names {
         if *word == name {

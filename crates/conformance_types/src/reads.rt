@@ -23,14 +23,31 @@ pub(crate) fn of_type<T: SerBin + DeBin + SerJson + DeJson + SerRon + DeRon>(
     input: &[u8],
 ) -> Result<Outcome, AllocError> {
     match format {
-        Format::Bin | Format::BinWhole | Format::BinAt => of_bytes::<T>(alloc, format, input),
-        Format::BinJson | Format::BinRon | Format::JsonWrite | Format::RonWrite => {
-            rewritten::<T>(alloc, format, input)
+        Format::BinRon | Format::RonWrite => bytes_as_ron::<T>(alloc, format, input),
+        Format::Ron | Format::RonWhole | Format::RonBin | Format::RonAgain | Format::RonState => {
+            match str::from_utf8(input) {
+                Ok(text) => of_ron::<T>(alloc, format, text),
+                Err(_) => not_a_text(alloc),
+            }
         }
-        _ => match str::from_utf8(input) {
-            Ok(text) => of_text::<T>(alloc, format, text),
+        _ => of_bytes_and_json::<T>(alloc, format, input),
+    }
+}
+
+/// The outcome of an input, of a type that has bytes and JSON.
+pub(crate) fn of_bytes_and_json<T: SerBin + DeBin + SerJson + DeJson>(
+    alloc: Global,
+    format: Format,
+    input: &[u8],
+) -> Result<Outcome, AllocError> {
+    match format {
+        Format::Bin | Format::BinWhole | Format::BinAt => of_bytes::<T>(alloc, format, input),
+        Format::BinJson | Format::JsonWrite => bytes_as_json::<T>(alloc, format, input),
+        Format::JsonBin => match str::from_utf8(input) {
+            Ok(text) => json_code(alloc, json_to_bin::<T>(alloc, text)),
             Err(_) => not_a_text(alloc),
         },
+        _ => of_json_alone::<T>(alloc, format, input),
     }
 }
 
@@ -95,54 +112,49 @@ fn offset_of(input: &[u8]) -> Option<(usize, &[u8])> {
     None
 }
 
-/// The text of the value that bytes begin with.
-fn rewritten<T: DeBin + SerJson + SerRon>(
+/// The JSON text of the value that bytes begin with: at level 0, or at the greatest.
+fn bytes_as_json<T: DeBin + SerJson>(
     alloc: Global,
     format: Format,
     input: &[u8],
 ) -> Result<Outcome, AllocError> {
+    let level = level_of(format);
     match T::deserialize_bin(alloc, input) {
-        Ok(value) => Ok(Outcome::Text(text_of(alloc, format, &value)?.into_bytes())),
+        Ok(value) => {
+            let mut state = SerJsonState {
+                out: String::new(alloc),
+            };
+            value.ser_json(alloc, level, &mut state)?;
+            Ok(Outcome::Text(state.out.into_bytes()))
+        }
         Err(error) => code(alloc, error, 0),
     }
 }
 
-/// A value as a text: at level 0, or at the greatest.
-fn text_of<T: SerJson + SerRon>(
+/// The RON text of the value that bytes begin with: at level 0, or at the greatest.
+fn bytes_as_ron<T: DeBin + SerRon>(
     alloc: Global,
     format: Format,
-    value: &T,
-) -> Result<String, AllocError> {
-    let out = String::new(alloc);
-    match format {
-        Format::BinRon => value.serialize_ron(alloc),
-        Format::RonWrite => {
-            let mut state = SerRonState { out };
-            value.ser_ron(alloc, usize::MAX, &mut state)?;
-            Ok(state.out)
+    input: &[u8],
+) -> Result<Outcome, AllocError> {
+    let level = level_of(format);
+    match T::deserialize_bin(alloc, input) {
+        Ok(value) => {
+            let mut state = SerRonState {
+                out: String::new(alloc),
+            };
+            value.ser_ron(alloc, level, &mut state)?;
+            Ok(Outcome::Text(state.out.into_bytes()))
         }
-        Format::JsonWrite => {
-            let mut state = SerJsonState { out };
-            value.ser_json(alloc, usize::MAX, &mut state)?;
-            Ok(state.out)
-        }
-        _ => value.serialize_json(alloc),
+        Err(error) => code(alloc, error, 0),
     }
 }
 
-/// The outcome of a text.
-fn of_text<T: SerBin + DeBin + SerJson + DeJson + SerRon + DeRon>(
-    alloc: Global,
-    format: Format,
-    text: &str,
-) -> Result<Outcome, AllocError> {
+/// The level at which a format wants a text: the greatest where it asks what is written in a state.
+fn level_of(format: Format) -> usize {
     match format {
-        Format::JsonBin => json_code(alloc, json_to_bin::<T>(alloc, text)),
-        Format::RonBin => ron_code(alloc, ron_to_bin::<T>(alloc, text)),
-        Format::Ron | Format::RonWhole | Format::RonAgain | Format::RonState => {
-            of_ron::<T>(alloc, format, text)
-        }
-        _ => of_json::<T>(alloc, format, text),
+        Format::JsonWrite | Format::RonWrite => usize::MAX,
+        _ => 0,
     }
 }
 
@@ -208,13 +220,14 @@ fn json_at<T: SerJson + DeJson>(alloc: Global, text: &str) -> Result<Outcome, Al
     json_left(alloc, read, &state, &input)
 }
 
-/// The outcome of a RON text, in RON.
-fn of_ron<T: SerRon + DeRon>(
+/// The outcome of a RON text, in RON or in bytes.
+fn of_ron<T: SerBin + DeBin + SerRon + DeRon>(
     alloc: Global,
     format: Format,
     text: &str,
 ) -> Result<Outcome, AllocError> {
     match format {
+        Format::RonBin => ron_code(alloc, ron_to_bin::<T>(alloc, text)),
         Format::Ron => ron(alloc, normal_ron::<T>(alloc, text)),
         Format::RonWhole => ron(alloc, ron_of(alloc, T::deserialize_ron_whole(alloc, text))),
         Format::RonAgain => ron(alloc, ron_again::<T>(alloc, text)),

@@ -60,32 +60,42 @@ fn value<V: Display + Drop>(
     }
 }
 
-/// What a call that takes a token answers, or what another call does.
+/// What a call that takes a token answers.
+fn done(alloc: Global, taken: Result<(), DeRonErr>) -> Result<Option<String>, AllocError> {
+    match taken {
+        Ok(()) => Ok(Some(String::from_str(alloc, "ok")?)),
+        Err(error) => Ok(Some(ron_fault(alloc, &error)?)),
+    }
+}
+
+/// The error that a call makes, by its clone.
+fn copied(alloc: Global, error: DeRonErr) -> Result<Option<String>, AllocError> {
+    let again = error.clone(alloc)?;
+    Ok(Some(ron_fault(alloc, &again)?))
+}
+
+/// What a call answers that takes a token, or what another call does.
 fn taken(
     alloc: Global,
     state: &mut DeRonState,
     input: &mut Chars<'_>,
     call: Call,
 ) -> Result<Option<String>, AllocError> {
-    let taken = match call {
-        Call::NextTok => state.next_tok(alloc, input),
-        Call::Colon => state.colon(alloc, input),
-        Call::NextColon => state.next_colon(alloc, input),
-        Call::Ident => state.ident(alloc, input),
-        Call::BlockOpen => state.block_open(alloc, input),
-        Call::BlockClose => state.block_close(alloc, input),
-        Call::CurlyOpen => state.curly_open(alloc, input),
-        Call::CurlyClose => state.curly_close(alloc, input),
-        Call::ParenOpen => state.paren_open(alloc, input),
-        Call::ParenClose => state.paren_close(alloc, input),
-        Call::EatCommaBlock => state.eat_comma_block(alloc, input),
-        Call::EatCommaCurly => state.eat_comma_curly(alloc, input),
-        Call::EatCommaParen => state.eat_comma_paren(alloc, input),
-        _ => return other(alloc, state, input, call),
-    };
-    match taken {
-        Ok(()) => Ok(Some(String::from_str(alloc, "ok")?)),
-        Err(error) => Ok(Some(ron_fault(alloc, &error)?)),
+    match call {
+        Call::NextTok => done(alloc, state.next_tok(alloc, input)),
+        Call::Colon => done(alloc, state.colon(alloc, input)),
+        Call::NextColon => done(alloc, state.next_colon(alloc, input)),
+        Call::Ident => done(alloc, state.ident(alloc, input)),
+        Call::BlockOpen => done(alloc, state.block_open(alloc, input)),
+        Call::BlockClose => done(alloc, state.block_close(alloc, input)),
+        Call::CurlyOpen => done(alloc, state.curly_open(alloc, input)),
+        Call::CurlyClose => done(alloc, state.curly_close(alloc, input)),
+        Call::ParenOpen => done(alloc, state.paren_open(alloc, input)),
+        Call::ParenClose => done(alloc, state.paren_close(alloc, input)),
+        Call::EatCommaBlock => done(alloc, state.eat_comma_block(alloc, input)),
+        Call::EatCommaCurly => done(alloc, state.eat_comma_curly(alloc, input)),
+        Call::EatCommaParen => done(alloc, state.eat_comma_paren(alloc, input)),
+        _ => other(alloc, state, input, call),
     }
 }
 
@@ -99,11 +109,11 @@ fn other(
     match call {
         Call::Next => {
             state.next(input);
-            Ok(Some(String::from_str(alloc, "ok")?))
+            done(alloc, Ok(()))
         }
         Call::Fail => {
             state.fail();
-            Ok(Some(String::from_str(alloc, "ok")?))
+            done(alloc, Ok(()))
         }
         Call::AsString => value(alloc, state.as_string(alloc)),
         Call::AsBool => value(alloc, state.as_bool(alloc)),
@@ -117,30 +127,27 @@ fn other(
 
 /// What a call answers that looks at the pending token, or one that makes an error.
 fn seen(alloc: Global, state: &DeRonState, call: Call) -> Result<Option<String>, AllocError> {
-    let is_so = match call {
-        Call::IsNone => state.is_none(),
-        Call::IsBlockClose => state.is_block_close(),
-        Call::IsCurlyClose => state.is_curly_close(),
-        Call::IsParenClose => state.is_paren_close(),
-        Call::NextIdent => state.next_ident().is_some(),
-        _ => return made(alloc, state, call),
-    };
-    Ok(Some(format!(in alloc; "{is_so}")?))
+    match call {
+        Call::IsNone => value(alloc, Ok(state.is_none())),
+        Call::IsBlockClose => value(alloc, Ok(state.is_block_close())),
+        Call::IsCurlyClose => value(alloc, Ok(state.is_curly_close())),
+        Call::IsParenClose => value(alloc, Ok(state.is_paren_close())),
+        Call::NextIdent => value(alloc, Ok(state.next_ident().is_some())),
+        _ => made(alloc, state, call),
+    }
 }
 
-/// The error that a call makes, and its clone.
+/// What a call answers that makes an error.
 fn made(alloc: Global, state: &DeRonState, call: Call) -> Result<Option<String>, AllocError> {
-    let error = match call {
-        Call::ErrExp => state.err_exp(alloc, "k"),
-        Call::ErrNf => state.err_nf(alloc, "k"),
-        Call::ErrEnum => state.err_enum(alloc, "V"),
-        Call::ErrToken => state.err_token(alloc, "x"),
-        Call::ErrRange => state.err_range(alloc, "x"),
-        Call::ErrType => state.err_type(alloc, "x"),
-        Call::ErrParse => state.err_parse(alloc, "x"),
-        Call::ErrMemory => state.err_memory(alloc),
-        _ => return Ok(None),
-    };
-    let again = error.clone(alloc)?;
-    Ok(Some(ron_fault(alloc, &again)?))
+    match call {
+        Call::ErrExp => copied(alloc, state.err_exp(alloc, "k")),
+        Call::ErrNf => copied(alloc, state.err_nf(alloc, "k")),
+        Call::ErrEnum => copied(alloc, state.err_enum(alloc, "V")),
+        Call::ErrToken => copied(alloc, state.err_token(alloc, "x")),
+        Call::ErrRange => copied(alloc, state.err_range(alloc, "x")),
+        Call::ErrType => copied(alloc, state.err_type(alloc, "x")),
+        Call::ErrParse => copied(alloc, state.err_parse(alloc, "x")),
+        Call::ErrMemory => copied(alloc, state.err_memory(alloc)),
+        _ => Ok(None),
+    }
 }

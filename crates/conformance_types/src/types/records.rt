@@ -1,4 +1,4 @@
-//! The types of `nanoserde::records`, `test_types` and `test_nested`, and what holds them.
+//! Documents, types of `nanoserde::records`, `test_types` and `test_nested`, and what holds them.
 //!
 //! tools/write_types.py writes this file of tools/types.tsv.
 
@@ -6,7 +6,8 @@ use crate::containers::{of_holder, of_list};
 use crate::format::Format;
 use crate::named::place_of;
 use crate::outcome::Outcome;
-use crate::reads::{of_bytes, of_json_alone, of_type};
+use crate::reads::{of_bytes, of_bytes_and_json, of_json_alone, of_type};
+use nano_document::Json;
 use nanoserde::records::{Choice, Holder, Item, Plain, Test};
 use std::alloc::{AllocError, Global};
 use std::collections::{BTreeSet, HashMap, HashSet, LinkedList};
@@ -177,7 +178,7 @@ const ITSELF_NAMES: &[&str] = &[
     "Branch",
 ];
 
-/// A type that contains itself, or one of two that contain each other, or no type that a case can name.
+/// A type that contains itself, or one of two that contain each other, or another type.
 pub(crate) fn of_itself(
     alloc: Global,
     format: Format,
@@ -193,6 +194,24 @@ pub(crate) fn of_itself(
         Some(5) => of_type::<Menu>(alloc, format, input),
         Some(6) => of_type::<Statement>(alloc, format, input),
         Some(7) => of_type::<Branch>(alloc, format, input),
+        _ => of_documents(alloc, format, kind, input),
+    }
+}
+
+/// The names of the types of `of_documents`, in the order of its arms.
+const DOCUMENTS_NAMES: &[&str] = &["Json", "Vec<Json>", "Holder<Json>"];
+
+/// A document, or what holds some, or no type that a case can name.
+pub(crate) fn of_documents(
+    alloc: Global,
+    format: Format,
+    kind: &str,
+    input: &[u8],
+) -> Result<Outcome, AllocError> {
+    match place_of(DOCUMENTS_NAMES, kind) {
+        Some(0) => of_bytes_and_json::<Json>(alloc, format, input),
+        Some(1) => of_bytes_and_json::<Vec<Json>>(alloc, format, input),
+        Some(2) => of_bytes_and_json::<Holder<Json>>(alloc, format, input),
         _ => Ok(Outcome::Unknown),
     }
 }
