@@ -16,16 +16,18 @@ TICKS = re.compile(r"`([^`\n]+)`")
 # Names of clauses, and what they are said to be clauses of.
 CITED = re.compile(r"((?:`\w+`(?:, | and )?)+) of (the same|(?:`[\w:]+`(?:, )?)+)")
 NAME = re.compile(r"[A-Za-z_][\w]*(?:-[\w]+)*")
-PATH = re.compile(r"^[\w./*-]+\.(?:rt|antt|md|py|sh|svg|edit|tsv|txt|c|rs)$|^(?:crates|docs|src|specs|proofs)/[\w./*-]*$")
+PATH = re.compile(r"^[\w./*-]+\.(?:rt|antt|md|py|sh|svg|edit|tsv|txt|c|rs)$"
+                  r"|^(?:crates|docs|src|specs|proofs)/[\w./*-]*$")
 # What stands for itself: a command, a text, or an example of input.
 OTHER = re.compile(r"^(?:rt|sh|python3|cargo|echo|printf|git|valgrind|out)\b|[\"'{}\[\]<>=|\\;]|^\W|^\d")
 # Words of Rust, of its other crates, of the toolchain and of the formats.
 KNOWN = set(
     "Some None Ok Err true false null NaN inf nan String Vec Option Box HashMap HashSet BTreeMap BTreeSet LinkedList "
-    "u8 u16 u32 u64 u128 usize i8 i16 i32 i64 i128 f32 f64 bool char str Drop Clone Debug Display PartialEq Eq Hash Ord "
-    "serde serde_json bincode ron toml nanoserde std anyhow thiserror impl derive trait struct enum match ghost ensures "
-    "requires unsafe where use mod pub fn let crate self mut ref dyn static const type as in for if else loop while "
-    "missing-field non-exhaustive-match unsatisfied-bound malloc nanoserde-derive no_std alloc Send Sync Read Write Result Rc Arc RefCell Cell Cow Default From Into TryFrom Iterator main".split()
+    "u8 u16 u32 u64 u128 usize i8 i16 i32 i64 i128 f32 f64 bool char str Drop Clone Debug Display PartialEq Eq Hash "
+    "Ord serde serde_json bincode ron toml nanoserde std anyhow thiserror impl derive trait struct enum match ghost "
+    "ensures requires unsafe where use mod pub fn let crate self mut ref dyn static const type as in for if else loop "
+    "while missing-field non-exhaustive-match unsatisfied-bound malloc nanoserde-derive no_std alloc Send Sync Read "
+    "Write Result Rc Arc RefCell Cell Cow Default From Into TryFrom Iterator main".split()
 )
 # Files of another place, and the two that stand for all of their kind.
 FILES = {"build.sh", "main.rs", "src/settings.rt", "X.antt", "XLaws.antt", "specs/X.antt", "specs/XLaws.antt",

@@ -1,8 +1,8 @@
 #!/usr/bin/env python3
 """Lists the public functions and methods of the libraries that no test file calls by name.
 
-The libraries are the crates of crates.txt above its tests, but for the generator. A test file is one of a crate of tests
-or of `conformance`, whose calls the tables of cases make. It counts where its crate stands on the
+The libraries are the crates of crates.txt above its tests, but for the generator. A test file is one of a crate of
+tests or of `conformance`, whose calls the tables of cases make. It counts where its crate stands on the
 function's, straight or through others; so do the files of an example that the crate stands on,
 since its tests run them. A call counts by its name alone, whatever its type. The script fails on a
 function that no test calls and that is not in UNCALLED, and on a name there that tests call. Usage,

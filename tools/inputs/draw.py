@@ -1,7 +1,8 @@
 """What is drawn at random: chances, choices, integers, characters and their escapes."""
 
 LETTERS = "abcxyzABCE_ntru0159 "
-OTHERS = "\"\\/'#,:[]{}()=.-+%\n\r\t\b\f\0\x01\x1f\x7f\u0080\u00e9\u0301\u07ff\u0800\u2028\u3042\ufeff\ufffd\uffff\U00010000\U0001f60b\U0010ffff"
+OTHERS = ("\"\\/'#,:[]{}()=.-+%\n\r\t\b\f\0\x01\x1f\x7f\u0080\u00e9\u0301\u07ff\u0800\u2028\u3042\ufeff\ufffd\uffff"
+          "\U00010000\U0001f60b\U0010ffff")
 NAMED = {"\n": "n", "\r": "r", "\t": "t", "\b": "b", "\f": "f", "\0": "0"}
 EDGES = [0, 1, 2, 9, 10, 99, 100, 127, 128, 255, 256, 32767, 32768, 65535, 65536, 2**31 - 1, 2**31,
          2**32 - 1, 2**32, 10**18, 2**63 - 1, 2**63, 10**19, 2**64 - 1, 2**64, 2**127, 2**128 - 1]

@@ -110,10 +110,10 @@ def called(format, reader, word):
 
 def appended(format, call):
     """What a call of a writer's state appends."""
-    name, level, label = WRITES.fullmatch(call).groups()
+    name, level, word = WRITES.fullmatch(call).groups()
     space = indent(int(level or 0))
     texts = {
-        "json": {"st_pre": "{", "st_post": "}", "conl": ",", "indent": "", "field": f'"{label}":', "label": f'"{label}"'},
-        "ron": {"st_pre": "(\n", "st_post": f"{space})", "conl": ",\n", "indent": space, "field": f"{space}{label}:"},
+        "json": {"st_pre": "{", "st_post": "}", "conl": ",", "indent": "", "field": f'"{word}":', "label": f'"{word}"'},
+        "ron": {"st_pre": "(\n", "st_post": f"{space})", "conl": ",\n", "indent": space, "field": f"{space}{word}:"},
     }
     return texts[format][name]
