@@ -20,7 +20,7 @@ ASKS = {"colon": ("Colon", ":"), "string": ("Str", "String"), "ident": ("Ident",
 BRACKETS = {"block": BLOCK, "curly": CURLY, "paren": PAREN}
 TESTS = {"next_str": "Str", "next_ident": "Ident", "is_block_close": "BlockClose",
          "is_curly_close": "CurlyClose", "is_paren_close": "ParenClose"}
-BOUNDS = {"u64_range": [2**64 - 1], "i64_range": [-(2**63), 2**63 - 1]}
+BOUNDS = {"i64_range": [-(2**63), 2**63 - 1]}  # where a call names none
 ERRORS = {"err_exp": "Unexpected key k", "err_nf": "Key not found k", "err_enum": "Enum not defined V",
           "err_range": "Value out of range x ", "err_type": "Token wrong type x ", "err_parse": "Cannot parse x "}
 
