@@ -12,7 +12,7 @@ MODULE = "mod derived;\n"
 WRITTEN = "-- Written by derive_files"
 CRATES = os.path.join(os.path.dirname(os.path.abspath(__file__)), "..", "crates")
 DATA = os.path.join(CRATES, "derive_files", "data")
-OTHERS = ("derive_syntax", "derive_impls", "derive_text", "derive_files", "test_derive")
+OTHERS = ("derive_source", "derive_syntax", "derive_impls", "derive_text", "derive_files", "test_derive")
 ROOTS = ("lib", "main", "mod")
 
 

@@ -3,7 +3,8 @@
 
 The messages are the second column of the table that begins `| You wrote | `derive` says |`. What a
 message is about, in backticks at its beginning, is left out: the rest is to stand in a text of
-derive_syntax, derive_impls or derive_text, from its beginning. Usage, at the top of the repository:
+derive_source, derive_syntax, derive_impls or derive_text, from its beginning. Usage, at the top of the
+repository:
 python3 tools/check_mistakes.py
 """
 import pathlib
@@ -12,15 +13,15 @@ import sys
 
 DOCUMENT = pathlib.Path("docs/USER_TYPES.md")
 HEAD = "| You wrote | `derive` says |"
-SOURCES = ["crates/derive_syntax/src", "crates/derive_impls/src", "crates/derive_text/src"]
+CRATES = ["derive_source", "derive_syntax", "derive_impls", "derive_text"]
 TEXT = re.compile(r'"((?:\\.|[^"\\])*)"', re.S)
 
 
 def texts():
     """The string literals of the sources, as they are printed."""
     found = set()
-    for folder in SOURCES:
-        for path in pathlib.Path(folder).glob("**/*.rt"):
+    for crate in CRATES:
+        for path in pathlib.Path("crates", crate, "src").glob("**/*.rt"):
             for text in TEXT.findall(path.read_text()):
                 found.add(re.sub(r"\\\n\s*", "", text).replace('\\"', '"'))
     return found

@@ -1,6 +1,7 @@
 """Whether what derive wrote is what was declared."""
 import re
 
+from .cycles import cycle_of
 from .definitions import Differs, definitions, name_of, same, tidy
 from .impls import Impls, parts_of, value
 
@@ -210,27 +211,21 @@ def compare_refs(owner, variant, index, last, refs):
     )
 
 
-def fields_of(kind, content):
-    """The fields of a struct, or of all variants of an enum."""
-    return content[1] if kind == "struct" else [field for variant in content for field in variant[3]]
-
-
-def without_levels(impls, name, fields, row):
-    """A row without what stands around each part: `Within` where it holds the type itself."""
+def without_levels(impls, names, fields, row):
+    """A row without what stands around each part: `Within` where it holds one of these types."""
     inner = []
     for field, written in zip(fields, parts_of(impls.expanded(row))):
         around = re.fullmatch(r"(Within|Other)<(.*)>", written)
         if not around:
-            raise Differs(f"`{written}` is neither within `{name}` nor other")
-        holds = re.search(rf"\b{name}\b", field.type) is not None
-        same(f"whether `{written}` is within `{name}`", holds, around[1] == "Within")
+            raise Differs(f"`{written}` is neither within {names} nor other")
+        holds = any(re.search(rf"\b{name}\b", field.type) for name in names)
+        same(f"whether `{written}` is within {names}", holds, around[1] == "Within")
         inner.append(around[2])
     return "(" + ",".join(inner) + ")"
 
 
-def compare_levels(impls, name, attributes):
-    """As many levels are read in each format, and reported, as the type says."""
-    limit = attributes.get("levels")
+def compare_levels(impls, name, limit, is_root):
+    """As many levels are read in each format, and reported at the root, as the root says."""
     for trait in {"DeBin", "DeJson", "DeRon"} & impls.traits(name):
         chain = f"at_most({limit})" if trait == "DeBin" and limit else "most()"
         block = impls.block(rf"(?:\w+::)?{trait} for {name}\b")
@@ -240,15 +235,16 @@ def compare_levels(impls, name, attributes):
             got = re.search(r"\(levels, (\d+), alloc", block)[1]
             same(f"count of `{trait}` for `{name}`", limit or "128", got)
             reader = impls.block(rf"(?:\w+::)?Reads{trait[2:]}<{name}> for (?:\w+::)?Levels")
-            got = re.search(r"Err\((?:\w+::)?(too_\w+)\(alloc, (?:(\d+), )?state\)\)", reader).groups()
-            wanted = ("too_many_levels", limit) if limit else ("too_deep", None)
+            found = re.search(r"Err\((?:\w+::)?(too_\w+)\(alloc, (?:(\d+), )?state\)\)", reader)
+            got = found and found.groups()
+            wanted = (("too_many_levels", limit) if limit else ("too_deep", None)) if is_root else None
             same(f"what is too deep in `{trait}` for `{name}`", wanted, got)
 
 
-def compare_nested(impls, kind, name, content):
-    """A type that contains itself: names, types and order, and which parts hold the type itself."""
+def compare_nested(impls, kind, name, content, cycle):
+    """A type that contains itself: names, types and order, and which parts hold a type of the cycle."""
     if kind == "struct":
-        row = without_levels(impls, name, content[1], impls.aliases[f"{name}Fields"])
+        row = without_levels(impls, cycle, content[1], impls.aliases[f"{name}Fields"])
         return compare_fields(impls, name, content[1], row, "")
     rows = parts_of(impls.expanded(impls.aliases[f"{name}Variants"]))
     same(f"number of variants of `{name}`", len(content), len(rows))
@@ -257,11 +253,11 @@ def compare_nested(impls, kind, name, content):
         wanted = name_of(variant, of_variant, "", True)
         same(f"name of `{name}::{variant}`", wanted, impls.names(names)[int(index or 0)])
         if shape == "Struct":
-            row = without_levels(impls, name, fields, re.fullmatch(r"Struct<(.*)>", row)[1])
+            row = without_levels(impls, cycle, fields, re.fullmatch(r"Struct<(.*)>", row)[1])
             compare_fields(impls, f"{name}::{variant}", fields, row, "")
         elif shape != "Unit":
             types = [f"Newtype<{field.type}>" for field in fields]
-            got = parts_of(without_levels(impls, name, fields, row))
+            got = parts_of(without_levels(impls, cycle, fields, row))
             same(f"types of `{name}::{variant}`", types, got)
 
 
@@ -323,10 +319,11 @@ def compare(source, text):
         compare_strict(impls, name, attributes)
         for trait, written in impls.bounds(name):
             same(f"bounds of `{trait}` for `{name}`", bounds, written)
-        types = [field.type for field in fields_of(kind, content)]
-        if any(re.search(rf"\b{name}\b", of) for of in types):
-            compare_levels(impls, name, attributes)
-            compare_nested(impls, kind, name, content)
+        cycle, root = cycle_of(found, name)
+        if cycle:
+            limit = {other: of.get("levels") for _, other, _, of, _ in found}.get(root)
+            compare_levels(impls, name, limit, name == root)
+            compare_nested(impls, kind, name, content, cycle)
         else:
             (compare_struct if kind == "struct" else compare_enum)(impls, name, attributes, content)
     return len(found)

@@ -106,14 +106,25 @@ def drawn_nested_fields(draw, name, names, in_line):
     return lines
 
 
+def drawn_around(draw, name, formats, words):
+    """A struct that holds a type of this name, which holds it."""
+    fields = drawn_nested_fields(draw, name, draw.sample(words, draw.randrange(4)), "pub ")
+    lines = [f"// nanoserde: {formats}", "#[derive(Drop)]", "#[cycle(n)]", f"pub struct R{name} {{", *fields]
+    return lines + [f"    pub root: {draw.choice(['$', *ITSELF]).replace('$', name)},", "}"]
+
+
 def drawn_nested(draw, name, formats, words):
-    """A struct or an enum of this name, with a part that holds the type itself."""
+    """A struct or an enum of this name, with a part that holds the type itself, or a struct that does."""
     levels = f', levels = "{draw.randrange(1, 129)}"' if draw.random() < 0.3 else ""
     lines = [f"// nanoserde: {formats}{levels}", "#[derive(Drop)]"]
-    itself = draw.choice(ITSELF).replace("$", name)
+    around = []
+    if draw.random() < 0.4:
+        lines.append("#[cycle(n)]")
+        around = drawn_around(draw, name, formats, words)
+    itself = draw.choice(ITSELF).replace("$", f"R{name}" if around else name)
     if draw.random() < 0.4:
         fields = drawn_nested_fields(draw, name, draw.sample(words, draw.randrange(5)), "pub ")
-        return lines + [f"pub struct {name} {{", *fields, f"    pub itself: {itself},", "}"]
+        return lines + [f"pub struct {name} {{", *fields, f"    pub itself: {itself},", "}", *around]
     in_text = formats != "bin"
     lines += [f"pub enum {name} {{", f"    Itself({itself}),"]
     for variant in draw.sample(["Stop", "MoveOn", "Say", "ListAll", "Wait"], draw.randrange(1, 5)):
@@ -128,7 +139,7 @@ def drawn_nested(draw, name, formats, words):
             names = draw.sample(words, draw.randrange(1 if in_text else 0, 4))
             fields = drawn_nested_fields(draw, name, names, "    ")
             lines += [f"    {variant} {{", *fields, "    },"]
-    return lines + ["}"]
+    return lines + ["}", *around]
 
 
 def drawn(draw, number):

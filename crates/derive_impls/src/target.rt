@@ -7,7 +7,7 @@ use crate::held::are_deep;
 use crate::parameters::{bounds, shape_types};
 use crate::rows::NO_ROW;
 use crate::sheet::Sheet;
-use derive_syntax::{Attributes, Definition, Fault, Holes, Shape, Token};
+use derive_syntax::{Attributes, Definition, Fault, Holes, Shape, Token, Type};
 use std::alloc::{AllocError, Global};
 
 /// The type whose impls are written.
@@ -32,6 +32,12 @@ pub struct Target<'a> {
     pub open: String,
     /// What stands above it.
     pub attributes: Attributes<'a>,
+    /// The types that it contains and that contain it, with itself, if it contains itself.
+    pub cycle: Vec<Token<'a>>,
+    /// The one of them that each way back to it leads through, or itself.
+    pub root: Token<'a>,
+    /// What stands above that one.
+    pub counted: Attributes<'a>,
     /// Whether a type parameter stands deep in what it is made of.
     pub(crate) is_deep: bool,
     /// The ghost terms for its codecs.
@@ -64,7 +70,25 @@ impl<'a> Target<'a> {
             module,
             name: definition.name,
             attributes: definition.attributes,
+            cycle: Vec::new(sheet.alloc),
+            root: definition.name,
+            counted: definition.attributes,
         })
+    }
+
+    /// Whether a type holds values of it, or of one that each way back to it leads through.
+    pub fn is_within(&self, of: Type<'a>) -> bool {
+        of.parameter_of(&self.cycle).is_some()
+    }
+
+    /// Whether it is one of several types that contain each other.
+    pub fn is_one_of_several(&self) -> bool {
+        self.cycle.len() > 1
+    }
+
+    /// Whether each way back to it leads through another type.
+    pub fn is_around(&self) -> bool {
+        self.root.text != self.name.text
     }
 
     /// The holes that its names stand in.

@@ -1,12 +1,12 @@
 //! The answers to what is to be proved of the impls of a type that contains itself.
 
 use crate::formats::first_codecs_name;
-use crate::json_answers::written_text;
+use crate::json_answers::json_writer;
 use crate::known_answers::known_answers;
 use crate::nested::Nested;
 use crate::ron_answers::ron_writer;
 use crate::text_answers::text_reader;
-use crate::text_codec::{JSON, RON};
+use crate::text_codec::{JSON, RON, TextTerms};
 use derive_syntax::{Attributes, codecs_name, crate_of};
 use std::alloc::{AllocError, Global};
 
@@ -19,41 +19,55 @@ pub(crate) struct Answers {
     pub(crate) text: String,
 }
 
-/// The answers for each function of a type in a module, above which these formats stand.
+/// The answers for each function of types in a module that contain each other, or of one that
+/// contains itself, above which these formats stand. The root is the last.
 pub(crate) fn answers_of(
     alloc: Global,
     module: &str,
-    nested: &Nested<'_>,
+    members: &[Nested<'_>],
     attributes: Attributes<'_>,
 ) -> Result<Vec<Answers>, AllocError> {
     let mut files = Vec::new(alloc);
-    if nested.is_enum {
-        let file = first_codecs_name(alloc, module, attributes)?;
-        files.push(known_answers(alloc, module, nested, file.as_str())?)?;
-    }
-    if attributes.bin.is_used() {
-        files.push(read_answers(alloc, module, nested)?)?;
+    let place = place_of(alloc, module)?;
+    let file = first_codecs_name(alloc, module, attributes)?;
+    if let Some(nested) = members.last() {
+        if nested.is_enum {
+            files.push(known_answers(alloc, nested, &place, file.as_str())?)?;
+        }
+        if attributes.bin.is_used() {
+            files.push(read_answers(alloc, nested, &place)?)?;
+        }
     }
     if attributes.json.is_used() {
-        append_json(alloc, module, nested, &mut files)?;
+        append_reader(alloc, members, (&JSON, &place), &mut files)?;
+        append(json_writer(alloc, members, &place)?, &mut files)?;
     }
     if attributes.ron.is_used() {
-        append_ron(alloc, module, nested, &mut files)?;
+        append_reader(alloc, members, (&RON, &place), &mut files)?;
+        append(ron_writer(alloc, members, &place)?, &mut files)?;
     }
     Ok(files)
 }
 
-/// The answers for the reader of bytes of a type in a module.
-fn read_answers(alloc: Global, module: &str, nested: &Nested<'_>) -> Result<Answers, AllocError> {
-    let (library, path) = crate_of(module);
-    let (folder, file) = (folder_of(alloc, path)?, codecs_name(alloc, module)?);
-    let name = nested.names.of.as_str();
-    let goals = format!(in alloc; "Rattle.{library}.proofs{path}.derived")?;
-    let specs = format!(in alloc; "Rattle.{library}.specs.{file}")?;
-    Ok(Answers {
-        path: format!(in alloc; "{folder}/LevelsReadsBin{name}/+read/Answers.antt")?,
-        text: read_text(alloc, nested, (goals.as_str(), specs.as_str()))?,
-    })
+/// Appends answers, if there are any.
+fn append(answers: Option<Answers>, files: &mut Vec<Answers>) -> Result<(), AllocError> {
+    match answers {
+        Some(answers) => Ok(files.push(answers)?),
+        None => Ok(()),
+    }
+}
+
+/// Appends the answers for what reads a format of texts: only the root takes them.
+fn append_reader(
+    alloc: Global,
+    members: &[Nested<'_>],
+    (format, place): (&TextTerms, &Place<'_>),
+    files: &mut Vec<Answers>,
+) -> Result<(), AllocError> {
+    if let Some(nested) = members.last() {
+        files.push(text_reader(alloc, nested, format, place)?)?;
+    }
+    Ok(())
 }
 
 /// What stands in the answers for the functions of the types of a module.
@@ -82,40 +96,39 @@ fn place_of<'a>(alloc: Global, module: &'a str) -> Result<Place<'a>, AllocError>
     })
 }
 
-/// Appends the answers for the reader of JSON of a type in a module, and for what writes named fields.
-fn append_json(
-    alloc: Global,
-    module: &str,
-    nested: &Nested<'_>,
-    files: &mut Vec<Answers>,
-) -> Result<(), AllocError> {
-    let place = place_of(alloc, module)?;
-    let (folder, snake) = (place.folder.as_str(), nested.names.snake.as_str());
-    files.push(text_reader(alloc, nested, &JSON, &place)?)?;
-    let of = (place.goals.as_str(), place.library, place.stem.as_str());
-    if let Some(text) = written_text(alloc, nested, of)? {
-        files.push(Answers {
-            path: format!(in alloc; "{folder}/+write_{snake}_json/Answers.antt")?,
-            text,
-        })?;
-    }
-    Ok(())
+/// The goals of a function.
+#[derive(Drop)]
+pub(crate) struct Goals {
+    /// The path of the file of the answers.
+    pub(crate) path: String,
+    /// The module of the goals.
+    pub(crate) module: String,
+    /// What the names of the goals begin with.
+    pub(crate) prefix: String,
 }
 
-/// Appends the answers for the reader of RON of a type in a module, and for what writes its fields
-/// and parts.
-fn append_ron(
+/// The goals of a function of an impl, which stand by themselves. Those of types that contain each
+/// other stand with the goals of the others, by the verb and the format.
+pub(crate) fn goals_of(
     alloc: Global,
-    module: &str,
     nested: &Nested<'_>,
-    files: &mut Vec<Answers>,
-) -> Result<(), AllocError> {
-    let place = place_of(alloc, module)?;
-    files.push(text_reader(alloc, nested, &RON, &place)?)?;
-    match ron_writer(alloc, nested, &place)? {
-        Some(answers) => Ok(files.push(answers)?),
-        None => Ok(()),
+    place: &Place<'_>,
+    (of, function, verb, format): (&str, &str, &str, &str),
+) -> Result<Goals, AllocError> {
+    let Place { folder, goals, .. } = place;
+    if !nested.members.are_several() {
+        return Ok(Goals {
+            path: format!(in alloc; "{folder}/{of}/+{verb}/Answers.antt")?,
+            module: format!(in alloc; "{goals}.{of}.+{verb}.Goals")?,
+            prefix: String::new(alloc),
+        });
     }
+    let root = nested.root().snake.as_str();
+    Ok(Goals {
+        path: format!(in alloc; "{folder}/+{verb}_{root}{format}/Answers.antt")?,
+        module: format!(in alloc; "{goals}.+{verb}_{root}{format}.Goals")?,
+        prefix: format!(in alloc; "{of}::{function}-")?,
+    })
 }
 
 /// The folder of the proofs of the impls of a module with this path in its crate.
@@ -134,36 +147,48 @@ pub(crate) fn folder_of(alloc: Global, path: &str) -> Result<String, AllocError>
 /// The first line of each file.
 pub(crate) const HEAD: &str = "-- Written by derive_files.";
 
-/// The answers for the reader of a type.
-fn read_text(
+/// The answers for the reader of bytes of a type.
+fn read_answers(
     alloc: Global,
     nested: &Nested<'_>,
-    (goals, specs): (&str, &str),
-) -> Result<String, AllocError> {
+    place: &Place<'_>,
+) -> Result<Answers, AllocError> {
     let read = if nested.is_enum {
         "read_choice_within"
     } else {
         "read_record_within"
     };
+    let of = format!(in alloc; "LevelsReadsBin{}", nested.names.of)?;
+    let of = (of.as_str(), "read_bin", "read", "_bin");
+    let Goals {
+        path,
+        module,
+        prefix,
+    } = goals_of(alloc, nested, place, of)?;
     let mut holes = nested.holes(alloc);
     holes.put("HEAD", HEAD);
-    holes.put("SPECS", specs);
-    holes.put("GOALS", goals);
+    holes.put("LIBRARY", place.library);
+    holes.put("STEM", place.stem.as_str());
+    holes.put("GOALS", module.as_str());
+    holes.put("OWN", prefix.as_str());
     holes.put("READ", read);
-    holes.fill(READ_TEXT)
+    Ok(Answers {
+        path,
+        text: holes.fill(READ_TEXT)?,
+    })
 }
 
 const READ_TEXT: &str = "\
 $HEAD
 use Rattle.nano_bin_nested.proofs.NestedLaws.{seen_ok, seen_err}
-use $SPECS.{$SNAKE_nested}
-use $GOALS.LevelsReadsBin$NAME.+read.Goals as goal
+use Rattle.$LIBRARY.specs.$STEMCodecs.{$SNAKE_nested}
+use $GOALS as goal
 
-pub returns-clause-ok : goal.returns-clause-ok
-returns-clause-ok t c =
+pub $OWNreturns-clause-ok : goal.$OWNreturns-clause-ok
+$OWNreturns-clause-ok t c =
     seen_ok $SNAKE_nested _ _ _ c.$READ.result c.$READ.ensures.ok
 
-pub returns-clause-err : goal.returns-clause-err
-returns-clause-err t c =
+pub $OWNreturns-clause-err : goal.$OWNreturns-clause-err
+$OWNreturns-clause-err t c =
     seen_err $SNAKE_nested _ _ _ c.$READ.result c.$READ.ensures.err
 ";

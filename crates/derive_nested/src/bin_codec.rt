@@ -2,7 +2,7 @@
 //! is encoded at all levels.
 
 use crate::coded::{Coded, nested_record};
-use crate::definitions::equation;
+use crate::definitions::{equation, root_first};
 use crate::nested::Nested;
 use crate::row::layer_of;
 use crate::wrapped::atom;
@@ -11,18 +11,23 @@ use std::alloc::{AllocError, Global};
 /// Bytes: their names are those of the type alone.
 const BYTES: Coded = Coded { infix: "", of: "" };
 
-/// The definitions for bytes.
-pub(crate) fn bin_codec(alloc: Global, nested: &Nested<'_>) -> Result<String, AllocError> {
-    let mut text = layer(alloc, nested)?;
-    text.push_str(nested_record(alloc, nested, BYTES)?.as_str())?;
-    text.push_str(codec(alloc, nested)?.as_str())?;
+/// The definitions for bytes of types that contain each other, or of one that contains itself.
+pub(crate) fn bin_codecs(alloc: Global, members: &[Nested<'_>]) -> Result<String, AllocError> {
+    let mut text = String::new(alloc);
+    for nested in members {
+        text.push_str(layer(alloc, nested)?.as_str())?;
+        text.push_str(nested_record(alloc, nested, BYTES)?.as_str())?;
+    }
+    for nested in root_first(alloc, members)? {
+        text.push_str(codec(alloc, nested)?.as_str())?;
+    }
     Ok(text)
 }
 
 /// The layer around values of the type itself.
 fn layer(alloc: Global, nested: &Nested<'_>) -> Result<String, AllocError> {
     let layer = layers(alloc, nested)?;
-    let mut holes = nested.holes(alloc);
+    let mut holes = nested.all_holes(alloc)?;
     if nested.is_enum {
         holes.put("LAYER", layer.as_str());
         return holes.fill(VARIANTS);
@@ -47,7 +52,7 @@ $SNAKE_layer = choice_layer $SNAKE_variants (λ f. lit≤ tt)
 const FIELDS: &str = "
 -- ---- as bytes: the layer around the values in it, and the codec
 
-abbrev pub $SNAKE_layer : Layer $NAME ($NAMEContent $NAME)
+abbrev pub $SNAKE_layer : Layer $ROOT ($NAMEContent $ROOT)
 $LAYER";
 
 /// The layer of a struct, or those of the variants.
@@ -70,10 +75,16 @@ fn layers(alloc: Global, nested: &Nested<'_>) -> Result<String, AllocError> {
 
 /// The codec.
 fn codec(alloc: Global, nested: &Nested<'_>) -> Result<String, AllocError> {
-    nested.holes(alloc).fill(CODEC)
+    let codec = if nested.is_around() { AROUND } else { CODEC };
+    nested.all_holes(alloc)?.fill(codec)
 }
 
 const CODEC: &str = "
 abbrev pub $SNAKE_codec : Codec $NAME
 $SNAKE_codec = nested_codec $SNAKE_nested
+";
+
+const AROUND: &str = "
+abbrev pub $SNAKE_codec : Codec $NAME
+$SNAKE_codec = $SNAKE_around.codec $BASE_codec
 ";

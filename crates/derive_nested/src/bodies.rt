@@ -1,15 +1,15 @@
 //! What the files of definitions and of laws say of each type.
 
-use crate::bin_codec::bin_codec;
+use crate::bin_codec::bin_codecs;
 use crate::brought::{cited_lines, declared_lines, text_cited, text_lines};
 use crate::codec_laws::codec_laws;
 use crate::definitions::definitions;
-use crate::formats::{before, has_several};
-use crate::nested::nested_of;
-use crate::others::{BIN, append_cited, append_codecs_of, append_others, others_of};
-use crate::text_codec::{TextTerms, text_codec};
+use crate::formats::{before, has_several, has_text};
+use crate::nested::{Nested, counted_in, nested_of};
+use crate::others::{BIN, Other, add_others_of, append_cited, append_codecs_of, append_others};
+use crate::text_codec::{TextTerms, text_codecs};
 use crate::text_laws::text_laws;
-use derive_syntax::{Definition, Fault, Source};
+use derive_syntax::{Attributes, Cycle, Fault, Source};
 use std::alloc::{AllocError, Global};
 
 /// What a file of ghost terms says.
@@ -46,72 +46,149 @@ pub(crate) struct File<'a> {
     pub(crate) name: &'a str,
 }
 
-/// Appends the definitions of a type that no format changes, and those of bytes if it has them.
+/// Types of a source that contain each other, or one that contains itself, as what is written says
+/// them: each after those that it contains but the root, which is the last. The fields of a struct
+/// are those of `y`, or of what it is seen as.
+pub(crate) fn nested_members<'a>(
+    alloc: Global,
+    source: &Source<'a>,
+    cycle: &Cycle<'a>,
+    is_seen: bool,
+) -> Result<Vec<Nested<'a>>, Fault> {
+    let mut members = Vec::new(alloc);
+    for name in &cycle.inward {
+        let value = value_of(alloc, name.text, is_seen)?;
+        for definition in &source.definitions {
+            if definition.name.text == name.text {
+                members.push(nested_of(alloc, (source, definition), value.as_str())?)?;
+            }
+        }
+    }
+    Ok(members)
+}
+
+/// What the fields of a struct of this name are fields of.
+fn value_of(alloc: Global, name: &str, is_seen: bool) -> Result<String, AllocError> {
+    if is_seen {
+        format!(in alloc; "(out-{name} x)")
+    } else {
+        String::from_str(alloc, "y")
+    }
+}
+
+/// The other types within some types of a module, each once.
+fn others_of<'a>(
+    alloc: Global,
+    module: &str,
+    source: &Source<'a>,
+    members: &[Nested<'a>],
+) -> Result<Vec<Other>, AllocError> {
+    let mut others = Vec::new(alloc);
+    for nested in members {
+        add_others_of(alloc, module, source, nested, &mut others)?;
+    }
+    Ok(others)
+}
+
+/// Appends the definitions of types that no format changes, and those of bytes if they have them.
 pub(crate) fn append_definitions<'a>(
     alloc: Global,
     file: File<'_>,
-    (source, definition): (&Source<'a>, &Definition<'a>),
+    (source, cycle): (&Source<'a>, &Cycle<'a>),
     specs: &mut Body,
 ) -> Result<(), Fault> {
-    let attributes = definition.attributes;
-    let nested = nested_of(alloc, definition, "y")?;
-    let others = others_of(alloc, file.module, source, &nested)?;
-    let mut text = definitions(alloc, &nested, has_several(attributes))?;
+    let Some(attributes) = counted_in(source, cycle) else {
+        return Ok(());
+    };
+    let members = nested_members(alloc, source, cycle, false)?;
+    let others = others_of(alloc, file.module, source, &members)?;
+    let mut text = definitions(alloc, &members, has_several(attributes))?;
     if attributes.bin.is_used() {
         append_codecs_of(alloc, file.module, &others, &BIN, specs)?;
-        text.push_str(bin_codec(alloc, &nested)?.as_str())?;
+        text.push_str(bin_codecs(alloc, &members)?.as_str())?;
     }
-    specs.say(text, declared_lines(alloc, file.module, &nested)?)?;
+    let mut brought = String::new(alloc);
+    for nested in &members {
+        brought.push_str(declared_lines(alloc, file.module, nested)?.as_str())?;
+    }
+    specs.say(text, brought)?;
     Ok(append_others(alloc, file.module, &others, specs)?)
 }
 
-/// Appends the laws of a type that no format changes, and those of bytes if it has them.
+/// Appends the laws of types that no format changes, and those of bytes if they have them.
 pub(crate) fn append_laws<'a>(
     alloc: Global,
     file: File<'_>,
-    (source, definition): (&Source<'a>, &Definition<'a>),
+    (source, cycle): (&Source<'a>, &Cycle<'a>),
     proofs: &mut Body,
 ) -> Result<(), Fault> {
-    let value = format!(in alloc; "(out-{} x)", definition.name.text)?;
-    let nested = nested_of(alloc, definition, value.as_str())?;
-    let others = others_of(alloc, file.module, source, &nested)?;
-    let has_bin = definition.attributes.bin.is_used();
-    let text = codec_laws(alloc, &nested, has_bin)?;
-    proofs.say(text, cited_lines(alloc, file.module, &nested, has_bin)?)?;
+    let Some(attributes) = counted_in(source, cycle) else {
+        return Ok(());
+    };
+    let members = nested_members(alloc, source, cycle, true)?;
+    let others = others_of(alloc, file.module, source, &members)?;
+    let has_bin = attributes.bin.is_used();
+    for nested in &members {
+        let text = codec_laws(alloc, nested, has_bin)?;
+        proofs.say(text, cited_lines(alloc, file.module, nested, has_bin)?)?;
+    }
     append_others(alloc, file.module, &others, proofs)?;
     Ok(append_cited(alloc, file, &others, proofs)?)
 }
 
-/// Appends the definitions of a type in a format of texts.
+/// Appends the definitions of types in a format of texts, if they have it.
 pub(crate) fn append_text_definitions<'a>(
     alloc: Global,
     file: File<'_>,
-    (source, definition, format): (&Source<'a>, &Definition<'a>, &TextTerms),
+    (source, cycle, format): (&Source<'a>, &Cycle<'a>, &TextTerms),
     specs: &mut Body,
 ) -> Result<(), Fault> {
-    let before = before(definition.attributes, format);
-    let nested = nested_of(alloc, definition, "y")?;
-    let others = others_of(alloc, file.module, source, &nested)?;
+    let Some(attributes) = text_attributes(source, cycle, format) else {
+        return Ok(());
+    };
+    let before = before(attributes, format);
+    let members = nested_members(alloc, source, cycle, false)?;
+    let others = others_of(alloc, file.module, source, &members)?;
     append_codecs_of(alloc, file.module, &others, &format.said, specs)?;
-    let text = text_codec(alloc, &nested, format, before)?;
-    specs.say(text, text_lines(alloc, file.module, &nested, before)?)?;
+    let text = text_codecs(alloc, &members, format, before)?;
+    let mut brought = String::new(alloc);
+    for nested in &members {
+        brought.push_str(text_lines(alloc, file.module, nested, before)?.as_str())?;
+    }
+    specs.say(text, brought)?;
     Ok(append_others(alloc, file.module, &others, specs)?)
 }
 
-/// Appends the laws of a type in a format of texts.
+/// What stands above the root of a cycle, if its types have a format of texts.
+fn text_attributes<'a>(
+    source: &Source<'a>,
+    cycle: &Cycle<'a>,
+    format: &TextTerms,
+) -> Option<Attributes<'a>> {
+    match counted_in(source, cycle) {
+        Some(attributes) if has_text(attributes, format) => Some(attributes),
+        _ => None,
+    }
+}
+
+/// Appends the laws of types in a format of texts, if they have it.
 pub(crate) fn append_text_laws<'a>(
     alloc: Global,
     file: File<'_>,
-    (source, definition, format): (&Source<'a>, &Definition<'a>, &TextTerms),
+    (source, cycle, format): (&Source<'a>, &Cycle<'a>, &TextTerms),
     proofs: &mut Body,
 ) -> Result<(), Fault> {
-    let is_first = before(definition.attributes, format).is_none();
-    let value = format!(in alloc; "(out-{} x)", definition.name.text)?;
-    let nested = nested_of(alloc, definition, value.as_str())?;
-    let others = others_of(alloc, file.module, source, &nested)?;
-    let text = text_laws(alloc, &nested, format, is_first)?;
-    let brought = text_cited(alloc, file.module, &nested, format, is_first)?;
-    proofs.say(text, brought)?;
+    let Some(attributes) = text_attributes(source, cycle, format) else {
+        return Ok(());
+    };
+    let is_first = before(attributes, format).is_none();
+    let members = nested_members(alloc, source, cycle, true)?;
+    let others = others_of(alloc, file.module, source, &members)?;
+    for nested in &members {
+        let text = text_laws(alloc, nested, format, is_first)?;
+        let brought = text_cited(alloc, file.module, nested, format, is_first)?;
+        proofs.say(text, brought)?;
+    }
     append_others(alloc, file.module, &others, proofs)?;
     Ok(append_cited(alloc, file, &others, proofs)?)
 }

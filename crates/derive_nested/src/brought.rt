@@ -3,7 +3,7 @@
 use crate::nested::Nested;
 use crate::text_codec::TextTerms;
 use crate::text_layers::content_name;
-use derive_syntax::{Case, codecs_name, crate_of};
+use derive_syntax::{Case, Holes, codecs_name, crate_of};
 use std::alloc::{AllocError, Global};
 
 /// The lines that bring in what is declared of a type.
@@ -12,18 +12,31 @@ pub(crate) fn declared_lines(
     module: &str,
     nested: &Nested<'_>,
 ) -> Result<String, AllocError> {
-    let name = nested.names.of.as_str();
-    let of = format!(in alloc; "use Rattle.{module}.{name}")?;
     let mut holes = nested.holes(alloc);
-    holes.put("OF", of.as_str());
+    put_modules(&mut holes, alloc, module, nested)?;
     holes.fill(DECLARED)
 }
 
 const DECLARED: &str = "$OF.{$NAME}
-$OF.TheOpen.{$NAME-F}
-$OF.TheViews.{out-$NAME}
-$OF.TheFolds.{map-$NAME, fold-$NAME, fold_out-$NAME}
+$GROUP.TheOpen.{$NAME-F}
+$GROUP.TheViews.{out-$NAME}
+$GROUP.TheFolds.{map-$NAME, fold-$NAME, fold_out-$NAME}
 ";
+
+/// Puts what begins a line that brings in what is declared of a type, and of all types that contain
+/// each other: that stands in the module of the first.
+fn put_modules(
+    holes: &mut Holes,
+    alloc: Global,
+    module: &str,
+    nested: &Nested<'_>,
+) -> Result<(), AllocError> {
+    let of = format!(in alloc; "use Rattle.{module}.{}", nested.names.of)?;
+    let group = format!(in alloc; "use Rattle.{module}.{}", nested.members.first())?;
+    holes.put("OF", of.as_str());
+    holes.put("GROUP", group.as_str());
+    Ok(())
+}
 
 /// The lines that bring in what the definitions of a format of texts cite of a type.
 pub(crate) fn text_lines(
@@ -32,10 +45,10 @@ pub(crate) fn text_lines(
     nested: &Nested<'_>,
     before: Option<&str>,
 ) -> Result<String, AllocError> {
-    let (name, snake) = (nested.names.of.as_str(), nested.names.snake.as_str());
-    let of = format!(in alloc; "use Rattle.{module}.{name}")?;
+    let snake = nested.names.snake.as_str();
     let specs = specs_of(alloc, module)?;
     let several = match before {
+        _ if nested.is_around() => String::new(alloc),
         Some("bin") => {
             format!(in alloc; "{specs}.{{{snake}_step, {snake}_nested, {snake}_codec}}\n")?
         }
@@ -43,19 +56,26 @@ pub(crate) fn text_lines(
         None => String::new(alloc),
     };
     let mut holes = nested.holes(alloc);
-    holes.put("OF", of.as_str());
+    put_modules(&mut holes, alloc, module, nested)?;
     holes.put("SPECS", specs.as_str());
     holes.put("SEVERAL", several.as_str());
+    let depth = if nested.is_around() { FOLDED } else { DEPTH };
+    let depth = holes.fill(depth)?;
+    holes.put("DEEP", depth.as_str());
     holes.fill(TEXT_LINES)
 }
 
 const TEXT_LINES: &str = "$OF.{$NAME}
-$OF.TheOpen.{$NAME-F}
-$OF.TheViews.{out-$NAME}
-$OF.TheFolds.{map-$NAME, fold_out-$NAME}
+$GROUP.TheOpen.{$NAME-F}
+$GROUP.TheViews.{out-$NAME}
+$GROUP.TheFolds.{map-$NAME, fold_out-$NAME}
 $SPECS.{$NAMEContent, $SNAKE_opened, $SNAKE_view, $SNAKE_means, $SNAKE_means_step}
-$SPECS.{$SNAKE_depth, $SNAKE_depth_step}
+$SPECS.{$DEEP}
 $SEVERAL";
+
+const DEPTH: &str = "$SNAKE_depth, $SNAKE_depth_step";
+
+const FOLDED: &str = "$SNAKE_depth_step, $SNAKE_means_folded, $SNAKE_depth_folded";
 
 /// The lines that bring in what is legal, and the codec of an earlier format of texts.
 fn earlier_lines(
@@ -114,24 +134,38 @@ pub(crate) fn cited_lines(
     let (name, snake) = (nested.names.of.as_str(), nested.names.snake.as_str());
     let of = format!(in alloc; "use Rattle.{module}.{name}")?;
     let specs = specs_of(alloc, module)?;
+    let levels = levels_name(nested);
     let codec = if has_bin {
-        format!(in alloc; ", {snake}_means, {snake}_nested, {snake}_codec")?
+        format!(in alloc; ", {snake}_means, {snake}_{levels}, {snake}_codec")?
     } else {
         String::new(alloc)
     };
     let mut lines = format!(in alloc; "{of}.{{{name}}}\n{specs}.{{{snake}_view{codec}}}\n")?;
     if nested.is_enum {
-        lines.push_str(format!(in alloc; "{of}.{{the_lemmas}}\n")?.as_str())?;
+        let first = nested.members.first();
+        let line = format!(in alloc; "use Rattle.{module}.{first}.{{the_lemmas}}\n")?;
+        lines.push_str(line.as_str())?;
     }
-    lines.push_str(parts_lines(alloc, of.as_str(), nested)?.as_str())?;
+    lines.push_str(parts_lines(alloc, module, nested)?.as_str())?;
     Ok(lines)
 }
 
+/// With what the name of the record of a type's levels ends in bytes, or that of it as a layer.
+fn levels_name(nested: &Nested<'_>) -> &'static str {
+    if nested.is_around() {
+        "around"
+    } else {
+        "nested"
+    }
+}
+
 /// The lines that bring in the variants of an enum, or how a struct is opened.
-fn parts_lines(alloc: Global, of: &str, nested: &Nested<'_>) -> Result<String, AllocError> {
+fn parts_lines(alloc: Global, module: &str, nested: &Nested<'_>) -> Result<String, AllocError> {
     let name = nested.names.of.as_str();
+    let of = format!(in alloc; "use Rattle.{module}.{name}")?;
     if !nested.is_enum {
-        return format!(in alloc; "{of}.TheViews.{{out-{name}}}\n");
+        let first = nested.members.first();
+        return format!(in alloc; "use Rattle.{module}.{first}.TheViews.{{out-{name}}}\n");
     }
     let mut lines = String::new(alloc);
     for held in &nested.contents {
@@ -150,12 +184,11 @@ pub(crate) fn text_cited(
     format: &TextTerms,
     is_first: bool,
 ) -> Result<String, AllocError> {
-    let (name, snake) = (nested.names.of.as_str(), nested.names.snake.as_str());
+    let snake = nested.names.snake.as_str();
     let (library, _path) = crate_of(module);
-    let of = format!(in alloc; "use Rattle.{module}.{name}")?;
     let specs = specs_of(alloc, module)?;
     let file = text_codecs_name(alloc, module, format)?;
-    let parts = parts_lines(alloc, of.as_str(), nested)?;
+    let parts = parts_lines(alloc, module, nested)?;
     let fields = if nested.is_enum {
         content_names(alloc, nested, format)?
     } else {
@@ -167,8 +200,11 @@ pub(crate) fn text_cited(
         String::new(alloc)
     };
     let views = views_line(alloc, module, nested)?;
-    let mut holes = format.holes(alloc, nested);
-    holes.put("OF", of.as_str());
+    let mut holes = format.holes(alloc, nested)?;
+    put_modules(&mut holes, alloc, module, nested)?;
+    let levels = if nested.is_around() { AROUND } else { NESTED };
+    let levels = holes.fill(levels)?;
+    holes.put("OWN_LEVELS", levels.as_str());
     holes.put("SPECS", specs.as_str());
     holes.put("LIBRARY", library);
     holes.put("FILE", file.as_str());
@@ -181,8 +217,12 @@ pub(crate) fn text_cited(
 
 const TEXT_CITED: &str = "$OF.{$NAME}
 $SPECS.{$SNAKE_view$MEANS}
-use Rattle.$LIBRARY.specs.$FILE.{$SNAKE_$INFIXnested, $SNAKE_$SUFFIX$FIELDS}
+use Rattle.$LIBRARY.specs.$FILE.{$OWN_LEVELS, $SNAKE_$SUFFIX$FIELDS}
 $VIEWS$PARTS";
+
+const NESTED: &str = "$SNAKE_$INFIXnested";
+
+const AROUND: &str = "$SNAKE_around";
 
 /// The names of the layers of the named fields of variants, each after a comma.
 pub(crate) fn content_names(

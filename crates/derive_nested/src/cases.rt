@@ -2,7 +2,8 @@
 //! a part is an option of values of the type itself, it is proved where it has none and where it
 //! has some.
 
-use crate::nested::{Held, Nested};
+use crate::held::Held;
+use crate::nested::Nested;
 use crate::row::Leaf;
 use crate::wrapped::{atom, held_proof};
 use std::alloc::{AllocError, Global};
@@ -124,7 +125,6 @@ fn statement(
     claim: Claim<'_>,
     (chosen, later): (&[Chosen], &[Leaf<'_>]),
 ) -> Result<String, AllocError> {
-    let (name, snake) = (nested.names.of.as_str(), nested.names.snake.as_str());
     let mut values = Vec::new(alloc);
     for part in chosen {
         values.push(part.value.clone()?)?;
@@ -133,16 +133,20 @@ fn statement(
         values.push(leaf.value.clone()?)?;
     }
     let value = value_of(alloc, nested, held, &values)?;
-    let (end, of, said) = match claim.said {
-        Said::Means(_place) => ("means", "Meaning", "means"),
-        Said::Depth => ("depth", "ℕ", "deep"),
-    };
-    let infix = claim.infix;
-    format!(in alloc;
-        "{snake}_{end}_step (map-{name} {name} {of} {snake}_{end} {value})\n    \
-        ≡ {snake}_{infix}layer.{said} {snake}_{end} ({snake}_opened {{X = {name}}} {value})"
-    )
+    let mut holes = nested.all_holes(alloc)?;
+    holes.put("INFIX", claim.infix);
+    holes.put("VALUE", value.as_str());
+    holes.fill(match claim.said {
+        Said::Means(_place) => MEANS,
+        Said::Depth => DEPTH,
+    })
 }
+
+const MEANS: &str = "$SNAKE_means_step (map-$NAME $TYPES $AS_MEANINGS $EACH_MEANS $VALUE)
+    ≡ $SNAKE_$INFIXlayer.means $BASE_means ($SNAKE_opened {X = $ROOT} $VALUE)";
+
+const DEPTH: &str = "$SNAKE_depth_step (map-$NAME $TYPES $AS_DEPTHS $EACH_DEPTH $VALUE)
+    ≡ $SNAKE_$INFIXlayer.deep $BASE_depth ($SNAKE_opened {X = $ROOT} $VALUE)";
 
 /// A value with these parts.
 fn value_of(

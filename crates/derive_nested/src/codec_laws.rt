@@ -1,8 +1,9 @@
 //! What is proved of a type that contains itself: what each variant is seen as, and of bytes how a
 //! value is written, and when it is legal.
 
+use crate::held::Held;
 use crate::legal_laws::{Known, struct_legal, variant_legal};
-use crate::nested::{Held, Nested};
+use crate::nested::Nested;
 use crate::wrapped::{at, atom};
 use derive_syntax::Case;
 use std::alloc::{AllocError, Global};
@@ -71,17 +72,22 @@ pub(crate) fn law_end(alloc: Global, held: &Held<'_>) -> Result<String, AllocErr
 fn struct_laws(alloc: Global, nested: &Nested<'_>, held: &Held<'_>) -> Result<String, AllocError> {
     let written = itself_at(alloc, nested, held.row.written.as_str())?;
     let legal = struct_legal(alloc, nested, held, &bytes(alloc, nested)?)?;
+    let proof = if nested.is_around() { "refl" } else { WRITTEN };
     let mut holes = nested.holes(alloc);
+    let proof = holes.fill(proof)?;
     holes.put("WRITTEN", written.as_str());
+    holes.put("PROOF", proof.as_str());
     holes.put("LEGAL", legal.as_str());
     holes.fill(STRUCT_LAWS)
 }
+
+const WRITTEN: &str = "written_seen $SNAKE_nested x ($SNAKE_view x) refl";
 
 const STRUCT_LAWS: &str = "
 pub $SNAKE_written : (x : $NAME)
     → $SNAKE_codec.canonical.written x
     ≡ $WRITTEN
-$SNAKE_written x = written_seen $SNAKE_nested x ($SNAKE_view x) refl
+$SNAKE_written x = $PROOF
 $LEGAL";
 
 /// What a variant at its place is seen as.
@@ -183,13 +189,14 @@ fn bytes(alloc: Global, nested: &Nested<'_>) -> Result<Known, AllocError> {
     let snake = nested.names.snake.as_str();
     Ok(Known {
         codec: format!(in alloc; "{snake}_codec")?,
+        within: format!(in alloc; "{}_codec", nested.root().snake)?,
         law: format!(in alloc; "seen_legal {snake}_nested")?,
     })
 }
 
 /// A term with the codec of the type itself in its hole.
 fn itself_at(alloc: Global, nested: &Nested<'_>, term: &str) -> Result<String, AllocError> {
-    let codec = format!(in alloc; "{}_codec", nested.names.snake)?;
+    let codec = format!(in alloc; "{}_codec", nested.root().snake)?;
     at(alloc, term, codec.as_str())
 }
 
@@ -201,7 +208,7 @@ pub(crate) fn binders(
 ) -> Result<String, AllocError> {
     let mut text = String::new(alloc);
     for leaf in &held.leaves {
-        let of = at(alloc, leaf.part.of.as_str(), nested.names.of.as_str())?;
+        let of = at(alloc, leaf.part.of.as_str(), nested.root().of.as_str())?;
         text.push_str(format!(in alloc; "({} : {of})\n    → ", leaf.value)?.as_str())?;
     }
     Ok(text)

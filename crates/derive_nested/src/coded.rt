@@ -15,14 +15,19 @@ pub(crate) struct Coded {
     pub(crate) of: &'static str,
 }
 
-/// That what a value means and how deep it is are said by the layer, and the record of these.
+/// That what a value means and how deep it is are said by the layer, and the record of these, or the
+/// layer around values of the root.
 pub(crate) fn nested_record(
     alloc: Global,
     nested: &Nested<'_>,
     format: Coded,
 ) -> Result<String, AllocError> {
     let mut text = opened(alloc, nested, format.infix)?;
-    text.push_str(record(alloc, nested, format)?.as_str())?;
+    let record = if nested.is_around() { AROUND } else { RECORD };
+    let mut holes = nested.all_holes(alloc)?;
+    holes.put("INFIX", format.infix);
+    holes.put("OF", format.of);
+    text.push_str(holes.fill(record)?.as_str())?;
     Ok(text)
 }
 
@@ -48,7 +53,7 @@ fn opened(alloc: Global, nested: &Nested<'_>, infix: &str) -> Result<String, All
         format!(in alloc; "{infix}depth_opened")?.as_str(),
         &depths,
     )?;
-    let mut holes = nested.holes(alloc);
+    let mut holes = nested.all_holes(alloc)?;
     holes.put("INFIX", infix);
     holes.put("MEANS", means.as_str());
     holes.put("DEPTHS", depths.as_str());
@@ -56,22 +61,14 @@ fn opened(alloc: Global, nested: &Nested<'_>, infix: &str) -> Result<String, All
 }
 
 const OPENED: &str = "
-pub $SNAKE_$INFIXmeans_opened : (y : $NAME-F $NAME)
-    → $SNAKE_means_step (map-$NAME $NAME Meaning $SNAKE_means y)
-    ≡ $SNAKE_$INFIXlayer.means $SNAKE_means ($SNAKE_opened y)
+pub $SNAKE_$INFIXmeans_opened : (y : $NAME-F $TYPES)
+    → $SNAKE_means_step (map-$NAME $TYPES $AS_MEANINGS $EACH_MEANS y)
+    ≡ $SNAKE_$INFIXlayer.means $BASE_means ($SNAKE_opened y)
 $MEANS
-pub $SNAKE_$INFIXdepth_opened : (y : $NAME-F $NAME)
-    → $SNAKE_depth_step (map-$NAME $NAME ℕ $SNAKE_depth y)
-    ≡ $SNAKE_$INFIXlayer.deep $SNAKE_depth ($SNAKE_opened y)
+pub $SNAKE_$INFIXdepth_opened : (y : $NAME-F $TYPES)
+    → $SNAKE_depth_step (map-$NAME $TYPES $AS_DEPTHS $EACH_DEPTH y)
+    ≡ $SNAKE_$INFIXlayer.deep $BASE_depth ($SNAKE_opened y)
 $DEPTHS";
-
-/// The record of the layer, and of what a value is seen as, means and how deep it is.
-fn record(alloc: Global, nested: &Nested<'_>, format: Coded) -> Result<String, AllocError> {
-    let mut holes = nested.holes(alloc);
-    holes.put("INFIX", format.infix);
-    holes.put("OF", format.of);
-    holes.fill(RECORD)
-}
 
 const RECORD: &str = "
 abbrev pub $SNAKE_$INFIXnested : Nested $OF$NAME
@@ -81,7 +78,21 @@ $SNAKE_$INFIXnested = record {
   view = $SNAKE_view;
   means = $SNAKE_means;
   depth = $SNAKE_depth;
-  means_is = λ x. fold_out-$NAME Meaning $SNAKE_means_step x ∙ $SNAKE_$INFIXmeans_opened (out-$NAME x);
-  depth_is = λ x. fold_out-$NAME ℕ $SNAKE_depth_step x ∙ $SNAKE_$INFIXdepth_opened (out-$NAME x);
+  means_is = λ x. fold_out-$NAME $AS_MEANINGS $ALL_STEPS x ∙ $SNAKE_$INFIXmeans_opened (out-$NAME x);
+  depth_is = λ x. fold_out-$NAME $AS_DEPTHS $ALL_DEPTHS x ∙ $SNAKE_$INFIXdepth_opened (out-$NAME x);
 }
+";
+
+const AROUND: &str = "
+-- around values of `$ROOT`
+abbrev pub $SNAKE_around : Layer $OF$ROOT $NAME
+$SNAKE_around = seen_layer $SNAKE_view $SNAKE_$INFIXlayer
+
+pub $SNAKE_means_is : (x : $NAME) → $SNAKE_means_folded x ≡ $SNAKE_means x
+$SNAKE_means_is x =
+    fold_out-$NAME $AS_MEANINGS $ALL_STEPS x ∙ $SNAKE_$INFIXmeans_opened (out-$NAME x)
+
+pub $SNAKE_depth_is : (x : $NAME) → $SNAKE_depth_folded x ≡ $SNAKE_around.deep $BASE_depth x
+$SNAKE_depth_is x =
+    fold_out-$NAME $AS_DEPTHS $ALL_DEPTHS x ∙ $SNAKE_$INFIXdepth_opened (out-$NAME x)
 ";

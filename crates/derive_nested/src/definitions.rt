@@ -1,23 +1,50 @@
 //! The definitions of a type that contains itself that no format changes: what a value is seen as,
 //! what it means, how deep it is, and which meanings are legal.
 
-use crate::nested::{Held, Nested};
+use crate::held::Held;
+use crate::nested::Nested;
 use crate::wrapped::atom;
 use std::alloc::{AllocError, Global};
 
-/// The definitions of a type, which has several formats or one.
+/// The definitions of types that contain each other, or of one that contains itself, which have
+/// several formats or one.
 pub(crate) fn definitions(
     alloc: Global,
-    nested: &Nested<'_>,
+    members: &[Nested<'_>],
     has_several: bool,
 ) -> Result<String, AllocError> {
     let mut text = String::new(alloc);
-    text.push_str(seen(alloc, nested)?.as_str())?;
-    text.push_str(meant(alloc, nested)?.as_str())?;
-    if has_several {
-        text.push_str(legal(alloc, nested)?.as_str())?;
+    for nested in members {
+        text.push_str(seen(alloc, nested)?.as_str())?;
+    }
+    text.push_str("\n-- ---- what it means, and how deep it is\n")?;
+    for nested in members {
+        text.push_str(meant(alloc, nested)?.as_str())?;
+    }
+    for nested in root_first(alloc, members)? {
+        text.push_str(folded(alloc, nested)?.as_str())?;
+    }
+    for nested in members {
+        if has_several {
+            text.push_str(legal(alloc, nested)?.as_str())?;
+        }
     }
     Ok(text)
+}
+
+/// Types that contain each other, of which the root is the last, with the root before the others.
+pub(crate) fn root_first<'s, 'a>(
+    alloc: Global,
+    members: &'s [Nested<'a>],
+) -> Result<Vec<&'s Nested<'a>>, AllocError> {
+    let mut ordered = Vec::new(alloc);
+    if let Some((root, others)) = members.split_last() {
+        ordered.push(root)?;
+        for nested in others {
+            ordered.push(nested)?;
+        }
+    }
+    Ok(ordered)
 }
 
 // ---- what a value is seen as
@@ -32,7 +59,7 @@ fn seen(alloc: Global, nested: &Nested<'_>) -> Result<String, AllocError> {
         values.push(nested.at_place(alloc, i, held.row.value.as_str())?)?;
     }
     let opened = cases(alloc, nested, "opened", &values)?;
-    let mut holes = nested.holes(alloc);
+    let mut holes = nested.all_holes(alloc)?;
     holes.put("CONTENT", content.as_str());
     holes.put("OPENED", opened.as_str());
     holes.fill(SEEN)
@@ -43,9 +70,9 @@ const SEEN: &str = "
 
 abbrev pub $NAMEContent : Type 0 → Type 0
 $CONTENT
-abbrev pub $SNAKE_opened : {X : Type 0} → $NAME-F X → $NAMEContent X
+abbrev pub $SNAKE_opened : {X : Type 0} → $NAME-F $FUNCTOR → $NAMEContent X
 $OPENED
-abbrev pub $SNAKE_view : $NAME → $NAMEContent $NAME
+abbrev pub $SNAKE_view : $NAME → $NAMEContent $ROOT
 $SNAKE_view x = $SNAKE_opened (out-$NAME x)
 ";
 
@@ -91,7 +118,7 @@ fn pattern(alloc: Global, nested: &Nested<'_>, held: &Held<'_>) -> Result<String
 
 // ---- what it means, and how deep it is
 
-/// What a value means, and how deep it is.
+/// What a value means, and how deep it is, step by step. A type alone is folded beside each.
 fn meant(alloc: Global, nested: &Nested<'_>) -> Result<String, AllocError> {
     let mut steps = Vec::new(alloc);
     let mut depths = Vec::new(alloc);
@@ -101,24 +128,65 @@ fn meant(alloc: Global, nested: &Nested<'_>) -> Result<String, AllocError> {
     }
     let steps = cases(alloc, nested, "means_step", &steps)?;
     let depths = cases(alloc, nested, "depth_step", &depths)?;
-    let mut holes = nested.holes(alloc);
+    let mut holes = nested.all_holes(alloc)?;
     holes.put("STEPS", steps.as_str());
     holes.put("DEPTHS", depths.as_str());
-    holes.fill(MEANT)
+    let is_alone = !nested.members.are_several();
+    let mut text = holes.fill(MEANS_STEP)?;
+    text.push_str(holes.fill(if is_alone { MEANS } else { "" })?.as_str())?;
+    text.push_str(holes.fill(DEPTH_STEP)?.as_str())?;
+    text.push_str(holes.fill(if is_alone { DEPTH } else { "" })?.as_str())?;
+    Ok(text)
 }
 
-const MEANT: &str = "
--- ---- what it means, and how deep it is
+const MEANS_STEP: &str = "
+abbrev pub $SNAKE_means_step : $NAME-F $AS_MEANINGS → Meaning
+$STEPS";
 
-abbrev pub $SNAKE_means_step : $NAME-F Meaning → Meaning
-$STEPS
+const DEPTH_STEP: &str = "
+abbrev pub $SNAKE_depth_step : $NAME-F $AS_DEPTHS → ℕ
+$DEPTHS";
+
+const MEANS: &str = "
 abbrev pub $SNAKE_means : $NAME → Meaning
-$SNAKE_means = fold-$NAME Meaning $SNAKE_means_step
+$SNAKE_means = fold-$NAME $AS_MEANINGS $ALL_STEPS
+";
 
-abbrev pub $SNAKE_depth_step : $NAME-F ℕ → ℕ
-$DEPTHS
+const DEPTH: &str = "
 abbrev pub $SNAKE_depth : $NAME → ℕ
-$SNAKE_depth = fold-$NAME ℕ $SNAKE_depth_step
+$SNAKE_depth = fold-$NAME $AS_DEPTHS $ALL_DEPTHS
+";
+
+/// What a value of a type means that is one of several, and how deep it is, by the steps of all.
+fn folded(alloc: Global, nested: &Nested<'_>) -> Result<String, AllocError> {
+    if !nested.members.are_several() {
+        return Ok(String::new(alloc));
+    }
+    let mut holes = nested.all_holes(alloc)?;
+    if !nested.is_around() {
+        let mut text = holes.fill(MEANS)?;
+        text.push_str(holes.fill(DEPTH)?.as_str())?;
+        return Ok(text);
+    }
+    let mut said = String::new(alloc);
+    for held in &nested.contents {
+        said.push_str(held.row.part.means.as_str())?;
+    }
+    holes.put("SAID", said.as_str());
+    holes.fill(FOLDED)
+}
+
+const FOLDED: &str = "
+-- by the steps, and as the layer around `$ROOT` says it
+abbrev pub $SNAKE_means_folded : $NAME → Meaning
+$SNAKE_means_folded = fold-$NAME $AS_MEANINGS $ALL_STEPS
+
+abbrev pub $SNAKE_depth_folded : $NAME → ℕ
+$SNAKE_depth_folded = fold-$NAME $AS_DEPTHS $ALL_DEPTHS
+
+abbrev pub $SNAKE_means : $NAME → Meaning
+$SNAKE_means x =
+    (λ (y : $NAME-F $TYPES). $SAID) (out-$NAME x)
 ";
 
 /// What a value of a variant at its place means, or one of the struct.

@@ -1,22 +1,22 @@
 //! The files that are written for the types of a source that contain themselves.
 
 ghost use Rattle.std.specs.Prelude.{IfErr};
-ghost use Rattle.derive_syntax.specs.Errors.{IsErrorIn};
+ghost use Rattle.derive_source.specs.Errors.{IsErrorIn};
 
 use crate::answers::{Answers, answers_of};
 use crate::bodies::{
     Body, File, append_definitions, append_laws, append_text_definitions, append_text_laws,
+    nested_members,
 };
 use crate::brought::text_codecs_name;
 use crate::cited::{BYTES, SHARED};
-use crate::formats::has_text;
 use crate::imports::{Known, imports};
-use crate::nested::nested_of;
+use crate::nested::counted_in;
 use crate::ron_cited::RON as RON_CITED;
 use crate::text_cited::{JSON as JSON_CITED, TEXTS};
 use crate::text_codec::{JSON, RON, TextTerms};
 use derive_syntax::{
-    Definition, DeriveError, Fault, Source, check_source, codecs_name, error_of, source_of,
+    Cycle, Definition, DeriveError, Fault, Source, check_source, codecs_name, error_of, source_of,
     text_above, tokens_of,
 };
 use std::alloc::{AllocError, Global};
@@ -81,28 +81,54 @@ fn files(alloc: Global, module: &str, source: &str) -> Result<Vec<NestedFile>, F
     let source = source_of(alloc, &tokens, above.len())?;
     check_source(alloc, &source)?;
     let mut files = Vec::new(alloc);
-    if contain_themselves(&source.definitions) {
-        append_codecs(alloc, module, &source, &mut files)?;
-        append_texts(alloc, module, &source, (&JSON, &JSON_CITED), &mut files)?;
-        append_texts(alloc, module, &source, (&RON, &RON_CITED), &mut files)?;
-        append_answers(alloc, module, &source.definitions, &mut files)?;
+    let cycles = cycles_of(alloc, &source)?;
+    if cycles.is_empty() {
+        return Ok(files);
     }
+    append_codecs(alloc, module, &source, &cycles, &mut files)?;
+    append_texts(
+        alloc,
+        module,
+        &source,
+        &cycles,
+        (&JSON, &JSON_CITED),
+        &mut files,
+    )?;
+    append_texts(
+        alloc,
+        module,
+        &source,
+        &cycles,
+        (&RON, &RON_CITED),
+        &mut files,
+    )?;
+    append_answers(alloc, module, &source, &cycles, &mut files)?;
     Ok(files)
 }
 
-/// Whether files are written for a type: it has a format, and contains itself.
-fn is_nested(definition: &Definition<'_>) -> bool {
-    definition.attributes.codec.is_some() && definition.contains_itself()
-}
-
-/// Whether files are written for one of the types.
-fn contain_themselves(types: &[Definition<'_>]) -> bool {
-    for definition in types {
-        if is_nested(definition) {
-            return true;
+/// The types of a source with formats that contain each other, or one that contains itself, in the
+/// order of the first of them.
+fn cycles_of<'a>(alloc: Global, source: &Source<'a>) -> Result<Vec<Cycle<'a>>, Fault> {
+    let mut cycles = Vec::new(alloc);
+    for definition in &source.definitions {
+        if definition.attributes.codec.is_none() {
+            continue;
+        }
+        if let Some(cycle) = source.cycle_of(alloc, definition)? {
+            if is_first(&cycle, definition) {
+                cycles.push(cycle)?;
+            }
         }
     }
-    false
+    Ok(cycles)
+}
+
+/// Whether a type is the first of a cycle.
+fn is_first<'a>(cycle: &Cycle<'a>, definition: &Definition<'a>) -> bool {
+    match cycle.names.first() {
+        Some(name) => name.text == definition.name.text,
+        None => false,
+    }
 }
 
 /// Appends the files of what every format has, and of bytes.
@@ -110,6 +136,7 @@ fn append_codecs<'a>(
     alloc: Global,
     module: &str,
     source: &Source<'a>,
+    cycles: &[Cycle<'a>],
     files: &mut Vec<NestedFile>,
 ) -> Result<(), Fault> {
     let name = codecs_name(alloc, module)?;
@@ -119,11 +146,9 @@ fn append_codecs<'a>(
     };
     let mut specs = Body::new(alloc);
     let mut proofs = Body::new(alloc);
-    for definition in &source.definitions {
-        if is_nested(definition) {
-            append_definitions(alloc, file, (source, definition), &mut specs)?;
-            append_laws(alloc, file, (source, definition), &mut proofs)?;
-        }
+    for cycle in cycles {
+        append_definitions(alloc, file, (source, cycle), &mut specs)?;
+        append_laws(alloc, file, (source, cycle), &mut proofs)?;
     }
     let tables: [&[Known]; 2] = [&SHARED, &BYTES];
     files.push(specs_file(alloc, name.as_str(), &specs, &tables)?)?;
@@ -136,6 +161,7 @@ fn append_texts<'a>(
     alloc: Global,
     module: &str,
     source: &Source<'a>,
+    cycles: &[Cycle<'a>],
     (format, cited): (&TextTerms, &[Known]),
     files: &mut Vec<NestedFile>,
 ) -> Result<(), Fault> {
@@ -146,11 +172,9 @@ fn append_texts<'a>(
     };
     let mut specs = Body::new(alloc);
     let mut proofs = Body::new(alloc);
-    for definition in &source.definitions {
-        if is_nested(definition) && has_text(definition.attributes, format) {
-            append_text_definitions(alloc, file, (source, definition, format), &mut specs)?;
-            append_text_laws(alloc, file, (source, definition, format), &mut proofs)?;
-        }
+    for cycle in cycles {
+        append_text_definitions(alloc, file, (source, cycle, format), &mut specs)?;
+        append_text_laws(alloc, file, (source, cycle, format), &mut proofs)?;
     }
     if specs.text.is_empty() {
         return Ok(());
@@ -202,16 +226,16 @@ const LAWS: &str = "-- Written by derive_files: what is proved of types that con
 fn append_answers<'a>(
     alloc: Global,
     module: &str,
-    types: &[Definition<'a>],
+    source: &Source<'a>,
+    cycles: &[Cycle<'a>],
     files: &mut Vec<NestedFile>,
 ) -> Result<(), Fault> {
-    for definition in types {
-        if !is_nested(definition) {
+    for cycle in cycles {
+        let Some(attributes) = counted_in(source, cycle) else {
             continue;
-        }
-        let nested = nested_of(alloc, definition, "y")?;
-        let attributes = definition.attributes;
-        for Answers { path, text } in answers_of(alloc, module, &nested, attributes)? {
+        };
+        let members = nested_members(alloc, source, cycle, false)?;
+        for Answers { path, text } in answers_of(alloc, module, &members, attributes)? {
             files.push(NestedFile {
                 folder: Folder::Proofs,
                 path,

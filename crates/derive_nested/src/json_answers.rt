@@ -1,48 +1,65 @@
 //! The answers to what is to be proved of what writes named fields of a type that contains itself in
 //! JSON.
 
-use crate::answers::HEAD;
+use crate::answers::{Answers, HEAD, Place};
 use crate::brought::content_names;
+use crate::held::Held;
 use crate::json_rows::{Appended, fields_proof};
-use crate::nested::{Held, Nested};
+use crate::nested::Nested;
 use crate::text_codec::JSON;
 use crate::text_fields::{field_name, has_contents, has_long_row};
 use crate::text_layers::content_name;
 use derive_syntax::{Case, Holes};
 use std::alloc::{AllocError, Global};
 
-/// The answers for what writes a struct in JSON, or the variants with named fields of an enum, if it
-/// has such, in a crate with files that are named so.
-pub(crate) fn written_text(
+/// The answers for what writes structs in JSON, and the variants with named fields of enums, of types
+/// that contain each other or of one that contains itself, if there are such.
+pub(crate) fn json_writer(
     alloc: Global,
-    nested: &Nested<'_>,
-    (goals, library, stem): (&str, &str, &str),
-) -> Result<Option<String>, AllocError> {
-    if nested.is_enum && !has_contents(nested) {
+    members: &[Nested<'_>],
+    place: &Place<'_>,
+) -> Result<Option<Answers>, AllocError> {
+    let mut answers = String::new(alloc);
+    let mut cited = String::new(alloc);
+    let mut specs = String::new(alloc);
+    for nested in members {
+        cited.push_str(cited_laws(alloc, nested)?.as_str())?;
+        specs.push_str(cited_definitions(alloc, nested, place)?.as_str())?;
+        for held in &nested.contents {
+            answers.push_str(answered(alloc, nested, held)?.as_str())?;
+        }
+    }
+    let (Some(nested), false) = (members.first(), answers.is_empty()) else {
         return Ok(None);
-    }
-    let cited = cited_laws(alloc, nested)?;
-    let specs = cited_definitions(alloc, nested, (library, stem))?;
-    let mut holes = nested.holes(alloc);
+    };
+    let (folder, snake) = (place.folder.as_str(), nested.root().snake.as_str());
+    let mut holes = nested.all_holes(alloc)?;
     holes.put("HEAD", HEAD);
-    holes.put("LIBRARY", library);
-    holes.put("STEM", stem);
-    holes.put("BESIDE", beside(nested));
-    holes.put("CITED", cited.as_str());
+    holes.put("LIBRARY", place.library);
+    holes.put("STEM", place.stem.as_str());
+    holes.put("BESIDE", beside(members));
+    holes.put(
+        "CITED",
+        cited.as_str().strip_prefix(", ").unwrap_or(cited.as_str()),
+    );
     holes.put("SPECS", specs.as_str());
-    holes.put("GOALS", goals);
-    let mut text = holes.fill(WRITTEN_TEXT)?;
-    for held in &nested.contents {
-        let answers = if !nested.is_enum {
-            struct_answers(alloc, nested, held)?
-        } else if held.has_fields {
-            variant_answers(alloc, nested, held)?
-        } else {
-            String::new(alloc)
-        };
-        text.push_str(answers.as_str())?;
+    holes.put("GOALS", place.goals.as_str());
+    holes.put("ANSWERS", answers.as_str());
+    Ok(Some(Answers {
+        path: format!(in alloc; "{folder}/+write_{snake}_json/Answers.antt")?,
+        text: holes.fill(WRITTEN_TEXT)?,
+    }))
+}
+
+/// The answers for what writes a struct, or a variant with named fields.
+fn answered(alloc: Global, nested: &Nested<'_>, held: &Held<'_>) -> Result<String, AllocError> {
+    if !nested.is_enum {
+        struct_answers(alloc, nested, held)
+    } else if held.has_fields {
+        variant_answers(alloc, nested, held)
+    } else {
+        Ok(String::new(alloc))
     }
-    Ok(Some(text))
 }
 
 const WRITTEN_TEXT: &str = "\
@@ -55,18 +72,19 @@ use Rattle.nano_json_schema.specs.FieldCodecs.{json_fields}
 use Rattle.nano_json_schema.proofs.WrittenFields.{more_fields}
 use Rattle.nano_json_nested.proofs.WrittenLaws.{written_between$BESIDE}
 use Rattle.$LIBRARY.proofs.$STEMJsonCodecsLaws.{$CITED}
-$SPECSuse $GOALS.+write_$SNAKE_json.Goals as goal
-";
+$SPECSuse $GOALS.+write_$BASE_json.Goals as goal
+$ANSWERS";
 
 /// The lines that bring in the definitions that the answers for variants cite, if a type has such.
 fn cited_definitions(
     alloc: Global,
     nested: &Nested<'_>,
-    (library, stem): (&str, &str),
+    place: &Place<'_>,
 ) -> Result<String, AllocError> {
-    if !nested.is_enum {
+    if !has_contents(nested) {
         return Ok(String::new(alloc));
     }
+    let (library, stem) = (place.library, place.stem.as_str());
     let contents = content_names(alloc, nested, &JSON)?;
     format!(in alloc;
         "use Rattle.std.specs.Prelude.{{codes}}
@@ -77,25 +95,30 @@ use Rattle.{library}.specs.{stem}JsonCodecs.{{{}_json{contents}}}
     )
 }
 
-/// The names of what the answers cite of the laws of a type.
+/// The names of what the answers cite of the laws of a type, each after a comma.
 fn cited_laws(alloc: Global, nested: &Nested<'_>) -> Result<String, AllocError> {
-    let mut names = if nested.is_enum {
+    let mut names = if nested.is_enum || nested.is_around() {
         String::new(alloc)
     } else {
-        format!(in alloc; "{}_json_text", nested.names.snake)?
+        format!(in alloc; ", {}_json_text", nested.names.snake)?
     };
     for held in &nested.contents {
         if held.has_fields {
             names.push_str(cited_fields(alloc, nested, held)?.as_str())?;
         }
     }
-    let cited = names.as_str();
-    String::from_str(alloc, cited.strip_prefix(", ").unwrap_or(cited))
+    Ok(names)
 }
 
 /// The names of the laws of all types that the answers cite, after another one.
-fn beside(nested: &Nested<'_>) -> &'static str {
-    match (nested.is_enum, has_long_row(nested)) {
+fn beside(members: &[Nested<'_>]) -> &'static str {
+    let mut has_names = false;
+    let mut is_long = false;
+    for nested in members {
+        has_names = has_names || has_contents(nested);
+        is_long = is_long || has_long_row(nested);
+    }
+    match (has_names, is_long) {
         (true, true) => ", none_so_far, named_between",
         (true, false) => ", named_between",
         (false, true) => ", none_so_far",
@@ -168,11 +191,17 @@ fn struct_answers(
         between(alloc, &row, inside.as_str())?,
     );
     let mut holes = nested.holes(alloc);
+    let law = holes.fill(if nested.is_around() { "" } else { BY_LAW })?;
     holes.put("ROLLBACK", rollback.as_str());
     holes.put("OPENING", opening.as_str());
+    holes.put("LAW", law.as_str());
     holes.put("BETWEEN", between.as_str());
     holes.fill(STRUCT_ANSWERS)
 }
+
+// What a type around the root is written as is seen by computing.
+const BY_LAW: &str = "rw ($SNAKE_json_text c.args.d x)
+    ";
 
 const STRUCT_ANSWERS: &str = "$ROLLBACK
 pub $NAMEJsonWriter::append_record-returns-clause-ok :
@@ -180,8 +209,7 @@ pub $NAMEJsonWriter::append_record-returns-clause-ok :
 $NAMEJsonWriter::append_record-returns-clause-ok t c =
     let x = c.args.value.now in
 $OPENING
-    rw ($SNAKE_json_text c.args.d x)
-    $BETWEEN
+    $LAW$BETWEEN
 ";
 
 /// The answers for what writes a variant with named fields.
@@ -228,7 +256,7 @@ fn content_answer(
     let snake = nested.names.snake.as_str();
     let content = content_name(alloc, &JSON, snake, held)?;
     let (key, values) = (held.key.as_str(), arguments(alloc, 0, held.leaves.len())?);
-    let mut holes = nested.holes(alloc);
+    let mut holes = nested.all_holes(alloc)?;
     holes.put("APPEND", append);
     holes.put("KEY", key);
     holes.put("CONTENT", content.as_str());
@@ -241,7 +269,7 @@ pub $NAMEJsonWriter::$APPEND-returns-clause-ok : goal.$NAMEJsonWriter::$APPEND-r
 $NAMEJsonWriter::$APPEND-returns-clause-ok t c =
     on_ok_weaker c.st_post.result
     (named_between (written_text (codes \"$KEY\"))
-    (($CONTENT.codec $SNAKE_json).canonical.text c.args.d $VALUES)
+    (($CONTENT.codec $BASE_json).canonical.text c.args.d $VALUES)
     (string_bytes c.args.s.now.out) (string_bytes c.st_pre.new.self.out)
     (string_bytes c.ser_json.new.s.out) (string_bytes c.push_str.new.self)
     (string_bytes c.$APPEND_fields.new.s.out) (string_bytes c.st_post.new.self.out)

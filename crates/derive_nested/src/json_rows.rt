@@ -1,6 +1,7 @@
 //! What is proved of named fields that are appended in JSON, one after the other.
 
-use crate::nested::{Held, Nested};
+use crate::held::Held;
+use crate::nested::Nested;
 use crate::text_codec::JSON;
 use crate::text_fields::field_name;
 use derive_syntax::Holder;

@@ -1,35 +1,38 @@
 //! The answers to what is to be proved of the function that says that a value of an enum is legal:
 //! in each variant it is so by the law of the variant, by what the calls for its parts give.
 
-use crate::answers::{Answers, HEAD, folder_of};
+use crate::answers::{Answers, Goals, HEAD, Place, goals_of};
 use crate::codec_laws::law_end;
 use crate::definitions::equation;
-use crate::nested::{Held, Nested};
+use crate::held::Held;
+use crate::nested::Nested;
 use crate::wrapped::atom;
-use derive_syntax::crate_of;
 use std::alloc::{AllocError, Global};
 
-/// The answers for that function of an enum in a module, by the laws beside the definitions of this
-/// name.
+/// The answers for that function of an enum, by the laws beside the definitions of this name.
 pub(crate) fn known_answers(
     alloc: Global,
-    module: &str,
     nested: &Nested<'_>,
+    place: &Place<'_>,
     file: &str,
 ) -> Result<Answers, AllocError> {
-    let (library, path) = crate_of(module);
-    let name = nested.names.of.as_str();
-    let folder = folder_of(alloc, path)?;
-    let (cited, answers) = answered(alloc, nested)?;
+    let of = format!(in alloc; "{}Value", nested.names.of)?;
+    let of = (of.as_str(), "known", "known", "");
+    let Goals {
+        path,
+        module,
+        prefix,
+    } = goals_of(alloc, nested, place, of)?;
+    let (cited, answers) = answered(alloc, nested, prefix.as_str())?;
     let mut holes = nested.holes(alloc);
     holes.put("HEAD", HEAD);
-    holes.put("LIBRARY", library);
+    holes.put("LIBRARY", place.library);
     holes.put("FILE", file);
     holes.put("CITED", cited.as_str());
-    holes.put("PATH", path);
+    holes.put("GOALS", module.as_str());
     holes.put("ANSWERS", answers.as_str());
     Ok(Answers {
-        path: format!(in alloc; "{folder}/{name}Value/+known/Answers.antt")?,
+        path,
         text: holes.fill(KNOWN_ANSWERS)?,
     })
 }
@@ -37,24 +40,33 @@ pub(crate) fn known_answers(
 const KNOWN_ANSWERS: &str = "\
 $HEAD
 use Rattle.$LIBRARY.proofs.$FILELaws.{$CITED}
-use Rattle.$LIBRARY.proofs$PATH.derived.$NAMEValue.+known.Goals as goal
+use $GOALS as goal
 $ANSWERS";
 
 /// The names of the laws of the variants, and the answers by them.
-fn answered(alloc: Global, nested: &Nested<'_>) -> Result<(String, String), AllocError> {
+fn answered(
+    alloc: Global,
+    nested: &Nested<'_>,
+    prefix: &str,
+) -> Result<(String, String), AllocError> {
     let mut cited = String::new(alloc);
     let mut answers = String::new(alloc);
     for (i, held) in nested.contents.iter().enumerate() {
         let law = format!(in alloc; "{}_legal_{}", nested.names.snake, law_end(alloc, held)?)?;
         let before = if i == 0 { "" } else { ", " };
         cited.push_str(format!(in alloc; "{before}{law}")?.as_str())?;
-        answers.push_str(answer(alloc, held, i == 0, law.as_str())?.as_str())?;
+        answers.push_str(answer(alloc, held, i == 0, (prefix, law.as_str()))?.as_str())?;
     }
     Ok((cited, answers))
 }
 
-/// The answer for a variant, the first one or another, by this law.
-fn answer(alloc: Global, held: &Held<'_>, is_first: bool, law: &str) -> Result<String, AllocError> {
+/// The answer for a variant, the first one or another, to a goal whose name begins so, by this law.
+fn answer(
+    alloc: Global,
+    held: &Held<'_>,
+    is_first: bool,
+    (prefix, law): (&str, &str),
+) -> Result<String, AllocError> {
     let variant = held.name.as_str();
     let mut values = String::new(alloc);
     for name in &held.called {
@@ -66,12 +78,13 @@ fn answer(alloc: Global, held: &Held<'_>, is_first: bool, law: &str) -> Result<S
         calls.push_str(format!(in alloc; " c.{call}.ensures")?.as_str())?;
     }
     let used = atom(alloc, format!(in alloc; "{law}{values}{calls}")?.as_str())?;
-    let head = format!(in alloc; "returns-in-{variant} t c")?;
+    let goal = format!(in alloc; "{prefix}returns-in-{variant}")?;
+    let head = format!(in alloc; "{goal} t c")?;
     let term = format!(in alloc; "rw c.in-{variant}.is {used}")?;
     let answer = equation(alloc, head.as_str(), term.as_str())?;
     format!(in alloc;
         "
-pub returns-in-{variant} : goal.returns-in-{variant}
+pub {goal} : goal.{goal}
 {answer}"
     )
 }

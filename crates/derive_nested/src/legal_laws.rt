@@ -2,7 +2,8 @@
 //! first format that the type has.
 
 use crate::codec_laws::{Variant, binders, law_end, variant_at};
-use crate::nested::{Held, Nested};
+use crate::held::Held;
+use crate::nested::Nested;
 use crate::wrapped::{at, atom};
 use std::alloc::{AllocError, Global};
 
@@ -11,6 +12,8 @@ use std::alloc::{AllocError, Global};
 pub(crate) struct Known {
     /// The codec.
     pub(crate) codec: String,
+    /// That of the type itself, or of the root, in it.
+    pub(crate) within: String,
     /// The law by which a value is legal, with what it is seen as and that this is legal.
     pub(crate) law: String,
 }
@@ -22,14 +25,19 @@ pub(crate) fn struct_legal(
     held: &Held<'_>,
     known: &Known,
 ) -> Result<String, AllocError> {
-    let Known { codec, law } = known;
-    let premises = premises(alloc, held, codec.as_str())?;
+    let Known { codec, within, law } = known;
+    let premises = premises(alloc, held, within.as_str())?;
     let (hypotheses, legal) = (hypotheses(alloc, held)?, held.row.legal.as_str());
     let mut holes = nested.holes(alloc);
+    let by = if nested.is_around() {
+        String::new(alloc)
+    } else {
+        format!(in alloc; "{law} x ({}_view x) refl\n    ", nested.names.snake)?
+    };
     holes.put("PREMISES", premises.as_str());
     holes.put("CODEC", codec.as_str());
     holes.put("HYPOTHESES", hypotheses.as_str());
-    holes.put("LAW", law.as_str());
+    holes.put("BY", by.as_str());
     holes.put("LEGAL", legal);
     holes.fill(STRUCT_LEGAL)
 }
@@ -38,8 +46,7 @@ const STRUCT_LEGAL: &str = "
 pub $SNAKE_legal : (x : $NAME)$PREMISES
     → $CODEC.encoding.legal ($SNAKE_means x)
 $SNAKE_legal x$HYPOTHESES =
-    $LAW x ($SNAKE_view x) refl
-    $LEGAL
+    $BY$LEGAL
 ";
 
 /// That a variant at its place is legal.
@@ -49,12 +56,12 @@ pub(crate) fn variant_legal(
     (held, i): (&Held<'_>, usize),
     known: &Known,
 ) -> Result<String, AllocError> {
-    let Known { codec, law } = known;
+    let Known { codec, within, law } = known;
     let (end, values) = (law_end(alloc, held)?, held.values(alloc)?);
     let Variant { value, seen, view } = variant_at(alloc, nested, held, i)?;
     let (seen, view) = (atom(alloc, seen.as_str())?, atom(alloc, view.as_str())?);
     let parts = binders(alloc, nested, held)?;
-    let premises = premises(alloc, held, codec.as_str())?;
+    let premises = premises(alloc, held, within.as_str())?;
     let (hypotheses, legal) = (hypotheses(alloc, held)?, legal_at(alloc, held, i)?);
     let mut holes = nested.holes(alloc);
     holes.put("END", end.as_str());

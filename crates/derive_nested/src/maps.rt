@@ -89,6 +89,7 @@ pub(crate) fn mapped(
     let items = ("x.1", "$.entries");
     Ok(Part {
         of: format!(in alloc; "BTreeMap {} {of}", keys.of)?,
+        deep: format!(in alloc; "BTreeMap {} {}", keys.of, atom(alloc, part.deep.as_str())?)?,
         codec: mapped_codec(alloc, names, &keys, part)?,
         legal: format!(in alloc; "LegalMap {} {legal}", keys.legal)?,
         layer: mapped_layer(alloc, &keys, part)?,
@@ -139,11 +140,10 @@ fn mapped_depth(alloc: Global, keys: &Keys, part: &Part) -> Result<String, Alloc
     if part.layer.is_none() {
         return String::from_str(alloc, "0");
     }
-    let of = at(alloc, part.of.as_str(), "ℕ")?;
     let depth = at(alloc, part.depth.as_str(), "x.1")?;
     format!(in alloc;
-        "greatest (map (λ (x : {} × {of}). {depth}) $.entries)",
-        keys.of
+        "greatest (map (λ (x : {} × {}). {depth}) $.entries)",
+        keys.of, part.deep
     )
 }
 

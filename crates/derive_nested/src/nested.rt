@@ -1,12 +1,10 @@
 //! A type that contains itself, as what is written says it.
 
+use crate::cycle::{Members, members_of, names_of};
+use crate::held::{Held, struct_held, variant_held};
 use crate::part::Names;
-use crate::row::{Leaf, Row, row_of};
-use crate::wrapped::{at, atom, part_of};
-use derive_syntax::{
-    Case, Content, Definition, Fault, Field, Holes, Shape, Token, Type, Variant, field_name,
-    nested_part, variant_name,
-};
+use crate::wrapped::{at, atom};
+use derive_syntax::{Attributes, Cycle, Definition, Fault, Holes, Shape, Source};
 use std::alloc::{AllocError, Global};
 
 /// A type that contains itself.
@@ -14,6 +12,8 @@ use std::alloc::{AllocError, Global};
 pub(crate) struct Nested<'a> {
     /// Its names.
     pub(crate) names: Names,
+    /// The types that it contains and that contain it, with itself.
+    pub(crate) members: Members,
     /// Whether it is an enum.
     pub(crate) is_enum: bool,
     /// How many levels are read.
@@ -24,37 +24,44 @@ pub(crate) struct Nested<'a> {
     pub(crate) contents: Vec<Held<'a>>,
 }
 
-/// What a variant holds, or what a struct has.
-#[derive(Drop)]
-pub(crate) struct Held<'a> {
-    /// The name of the variant, or nothing.
-    pub(crate) name: String,
-    /// What the variant is called in texts, or nothing.
-    pub(crate) key: String,
-    /// Whether it has named fields.
-    pub(crate) has_fields: bool,
-    /// What the parts are called in the program.
-    pub(crate) called: Vec<String>,
-    /// The parts.
-    pub(crate) leaves: Vec<Leaf<'a>>,
-    /// The parts together.
-    pub(crate) row: Row,
+/// The cycle of a definition.
+///
+/// # Errors
+///
+/// The type does not contain itself, or an allocation fails.
+fn cycle_of<'a>(
+    alloc: Global,
+    source: &Source<'a>,
+    definition: &Definition<'a>,
+) -> Result<Cycle<'a>, Fault> {
+    match source.cycle_of(alloc, definition)? {
+        Some(cycle) => Ok(cycle),
+        None => Err(definition.name.fault("does not contain itself")),
+    }
 }
 
-/// A definition as what is written says it. The fields of a struct are those of this value.
+/// What stands above the root of a cycle.
+pub(crate) fn counted_in<'a>(source: &Source<'a>, cycle: &Cycle<'a>) -> Option<Attributes<'a>> {
+    for definition in &source.definitions {
+        if cycle.is_root(definition.name) {
+            return Some(definition.attributes);
+        }
+    }
+    None
+}
+
+/// A definition of a source as what is written says it. The fields of a struct are those of this
+/// value.
 pub(crate) fn nested_of<'a>(
     alloc: Global,
-    definition: &Definition<'a>,
+    (source, definition): (&Source<'a>, &Definition<'a>),
     value: &str,
 ) -> Result<Nested<'a>, Fault> {
-    let names = Names {
-        of: String::from_str(alloc, definition.name.text)?,
-        snake: Case::Snake.of_variant(alloc, definition.name.text)?,
-    };
+    let cycle = cycle_of(alloc, source, definition)?;
     let mut contents = Vec::new(alloc);
     let (variants, is_enum) = match &definition.shape {
         Shape::Fields(fields) => {
-            contents.push(struct_held(alloc, &names, definition.name, (fields, value))?)?;
+            contents.push(struct_held(alloc, &cycle, (fields, value))?)?;
             (None, false)
         }
         Shape::Parts(_parts) => (None, false),
@@ -62,157 +69,22 @@ pub(crate) fn nested_of<'a>(
     };
     if let Some(variants) = variants {
         for variant in variants {
-            contents.push(variant_held(alloc, &names, definition.name, variant)?)?;
+            contents.push(variant_held(alloc, &cycle, variant)?)?;
         }
     }
-    let attributes = definition.attributes;
-    let too_deep = match attributes.levels {
+    let counted = counted_in(source, &cycle).unwrap_or(definition.attributes);
+    let too_deep = match counted.levels {
         Some(_limit) => "too_many_levels",
         None => "too_deep",
     };
     Ok(Nested {
-        names,
+        names: names_of(alloc, definition.name.text)?,
+        members: members_of(alloc, &cycle)?,
         is_enum,
-        limit: attributes.level_limit(),
+        limit: counted.level_limit(),
         too_deep,
         contents,
     })
-}
-
-/// What a struct has, whose fields are those of a value.
-fn struct_held<'a>(
-    alloc: Global,
-    names: &Names,
-    name: Token<'a>,
-    (fields, value): (&[Field<'a>], &str),
-) -> Result<Held<'a>, Fault> {
-    let mut leaves = Vec::new(alloc);
-    let mut called = Vec::new(alloc);
-    for (i, field) in fields.iter().enumerate() {
-        let called_so = field.name.text;
-        let value = format!(in alloc; "{value}.{called_so}")?;
-        let key = Some(field_name(alloc, *field, None)?);
-        leaves.push(leaf_of(alloc, names, (name, field.of), (i, value, key))?)?;
-        called.push(String::from_str(alloc, called_so)?)?;
-    }
-    held_of(
-        alloc,
-        (String::new(alloc), String::new(alloc)),
-        true,
-        (called, leaves),
-    )
-}
-
-/// What a variant holds.
-fn variant_held<'a>(
-    alloc: Global,
-    names: &Names,
-    name: Token<'a>,
-    variant: &Variant<'a>,
-) -> Result<Held<'a>, Fault> {
-    let mut leaves = Vec::new(alloc);
-    let types = types_of(alloc, &variant.content)?;
-    for (i, of) in types.iter().enumerate() {
-        let value = if types.len() == 1 {
-            String::from_str(alloc, "v")?
-        } else {
-            format!(in alloc; "v{i}")?
-        };
-        let key = key_at(alloc, &variant.content, i)?;
-        leaves.push(leaf_of(alloc, names, (name, *of), (i, value, key))?)?;
-    }
-    let has_fields = matches!(variant.content, Content::Fields(_));
-    let called = called_in(alloc, &variant.content)?;
-    let own = String::from_str(alloc, variant.name.text)?;
-    let key = variant_name(alloc, variant, None)?;
-    held_of(alloc, (own, key), has_fields, (called, leaves))
-}
-
-/// What the field of a variant at its place is called in texts, if it has a name.
-fn key_at(alloc: Global, content: &Content<'_>, i: usize) -> Result<Option<String>, AllocError> {
-    let Content::Fields(fields) = content else {
-        return Ok(None);
-    };
-    match fields.get(i) {
-        Some(field) => Ok(Some(field_name(alloc, *field, None)?)),
-        None => Ok(None),
-    }
-}
-
-/// Parts together, of a variant of this name, which is called so in texts, or of a struct.
-fn held_of<'a>(
-    alloc: Global,
-    (name, key): (String, String),
-    has_fields: bool,
-    (called, leaves): (Vec<String>, Vec<Leaf<'a>>),
-) -> Result<Held<'a>, Fault> {
-    Ok(Held {
-        name,
-        key,
-        has_fields,
-        called,
-        row: row_of(alloc, &leaves)?,
-        leaves,
-    })
-}
-
-/// A part of this type at its place.
-fn leaf_of<'a>(
-    alloc: Global,
-    names: &Names,
-    (name, of): (Token<'a>, Type<'a>),
-    (i, value, key): (usize, String, Option<String>),
-) -> Result<Leaf<'a>, Fault> {
-    let nested = nested_part(alloc, name, of)?;
-    Ok(Leaf {
-        part: part_of(alloc, names, &nested)?,
-        nested,
-        key,
-        value,
-        legal: format!(in alloc; "h{i}")?,
-    })
-}
-
-/// The types of what a variant holds.
-fn types_of<'a>(alloc: Global, content: &Content<'a>) -> Result<Vec<Type<'a>>, AllocError> {
-    let mut types = Vec::new(alloc);
-    match content {
-        Content::Nothing => {}
-        Content::Parts(parts) => return parts.clone(),
-        Content::Fields(fields) => {
-            for field in fields {
-                types.push(field.of)?;
-            }
-        }
-    }
-    Ok(types)
-}
-
-/// What a pattern calls the parts of a tuple variant.
-const PARTS: [&str; 4] = ["first", "second", "third", "fourth"];
-
-/// What the parts of a variant are called in the program.
-fn called_in(alloc: Global, content: &Content<'_>) -> Result<Vec<String>, AllocError> {
-    let mut called = Vec::new(alloc);
-    match content {
-        Content::Nothing => {}
-        Content::Parts(parts) => {
-            for (part, _of) in PARTS.iter().zip(parts.iter()) {
-                called.push(String::from_str(alloc, *part)?)?;
-            }
-        }
-        Content::Fields(fields) => return field_names(alloc, fields),
-    }
-    Ok(called)
-}
-
-/// The names of fields.
-fn field_names(alloc: Global, fields: &[Field<'_>]) -> Result<Vec<String>, AllocError> {
-    let mut names = Vec::new(alloc);
-    for field in fields {
-        names.push(String::from_str(alloc, field.name.text)?)?;
-    }
-    Ok(names)
 }
 
 impl Nested<'_> {
@@ -223,6 +95,23 @@ impl Nested<'_> {
         holes.put("SNAKE", self.names.snake.as_str());
         holes.put("LIMIT", self.limit);
         holes
+    }
+
+    /// The same, and those in which what speaks of all types stands that contain each other.
+    pub(crate) fn all_holes(&self, alloc: Global) -> Result<Holes, AllocError> {
+        let mut holes = self.holes(alloc);
+        self.members.put(alloc, &mut holes)?;
+        Ok(holes)
+    }
+
+    /// The names of the type of whose values it is a layer: itself, or the root.
+    pub(crate) fn root(&self) -> &Names {
+        &self.members.root
+    }
+
+    /// Whether each way back to it leads through another type.
+    pub(crate) fn is_around(&self) -> bool {
+        self.names.of.as_str() != self.members.root.of.as_str()
     }
 
     /// What a value is seen as: what the variants hold, each of the first variant and the rest.
@@ -272,17 +161,5 @@ impl Nested<'_> {
             path = format!(in alloc; "Later ({path})")?;
         }
         Ok(path)
-    }
-}
-
-impl Held<'_> {
-    /// The names of the parts in a ghost term, each after a space.
-    pub(crate) fn values(&self, alloc: Global) -> Result<String, AllocError> {
-        let mut text = String::new(alloc);
-        for leaf in &self.leaves {
-            text.push(' ')?;
-            text.push_str(leaf.value.as_str())?;
-        }
-        Ok(text)
     }
 }

@@ -2,7 +2,8 @@
 //! is what its impls say.
 
 use crate::bodies::{Body, File};
-use crate::nested::{Held, Nested};
+use crate::held::Held;
+use crate::nested::Nested;
 use derive_syntax::{Case, Core, Source, crate_of};
 use std::alloc::{AllocError, Global};
 
@@ -39,18 +40,18 @@ pub(crate) const BIN: Said = Said {
     called: "bin",
 };
 
-/// The other types within a type of a module, each once.
-pub(crate) fn others_of<'a>(
+/// Adds the other types within a type of a module that are not there yet.
+pub(crate) fn add_others_of<'a>(
     alloc: Global,
     module: &str,
     source: &Source<'a>,
     nested: &Nested<'a>,
-) -> Result<Vec<Other>, AllocError> {
-    let mut others = Vec::new(alloc);
+    others: &mut Vec<Other>,
+) -> Result<(), AllocError> {
     for held in &nested.contents {
-        add_others(alloc, module, source, held, &mut others)?;
+        add_others(alloc, module, source, held, others)?;
     }
-    Ok(others)
+    Ok(())
 }
 
 /// Adds the other types among some parts that are not there yet.

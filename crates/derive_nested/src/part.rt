@@ -9,6 +9,8 @@ use std::alloc::{AllocError, Global};
 pub(crate) struct Part {
     /// Its type; the hole is the type itself.
     pub(crate) of: String,
+    /// Its type where the values of the type itself are depths.
+    pub(crate) deep: String,
     /// Its codec; the hole is that of the type itself.
     pub(crate) codec: String,
     /// Which meanings are legal; the legal ones of the type itself are `P`.
@@ -80,6 +82,7 @@ const PLAIN: &[(&str, &str, &str, &str, &str)] = &[
 pub(crate) fn core_part(alloc: Global, names: &Names, core: Core<'_>) -> Result<Part, AllocError> {
     match core {
         Core::Itself => itself(alloc, names),
+        Core::Around(name) => around(alloc, name),
         Core::Plain(name) => plain_part(alloc, name),
         Core::Other(name) => user_part(alloc, name),
     }
@@ -97,11 +100,31 @@ fn user_part(alloc: Global, name: &str) -> Result<Part, AllocError> {
     )
 }
 
+/// What is said of a type that contains the type itself and stands in it: it is a layer around its
+/// values, and its depth is counted already.
+fn around(alloc: Global, name: &str) -> Result<Part, AllocError> {
+    let snake = Case::Snake.of_variant(alloc, name)?;
+    Ok(Part {
+        of: String::from_str(alloc, name)?,
+        deep: String::from_str(alloc, "ℕ")?,
+        codec: format!(in alloc; "{snake}_around.codec $")?,
+        legal: format!(in alloc; "{snake}_step P")?,
+        layer: Some(format!(in alloc; "{snake}_around")?),
+        step: String::from_str(alloc, "$")?,
+        means: format!(in alloc; "{snake}_means $")?,
+        depth: String::from_str(alloc, "$")?,
+        is_cased: false,
+        means_same: Some(format!(in alloc; "{snake}_means_is $")?),
+        depth_same: Some(format!(in alloc; "{snake}_depth_is $")?),
+    })
+}
+
 /// What is said of the type itself.
 fn itself(alloc: Global, names: &Names) -> Result<Part, AllocError> {
     let snake = names.snake.as_str();
     Ok(Part {
         of: String::from_str(alloc, "$")?,
+        deep: String::from_str(alloc, "ℕ")?,
         codec: String::from_str(alloc, "$")?,
         legal: String::from_str(alloc, "P")?,
         layer: Some(String::from_str(alloc, "itself_layer")?),
@@ -136,6 +159,7 @@ fn other_part(
 ) -> Result<Part, AllocError> {
     Ok(Part {
         of: String::from_str(alloc, of)?,
+        deep: String::from_str(alloc, of)?,
         codec: String::from_str(alloc, codec)?,
         legal: String::from_str(alloc, legal)?,
         layer: None,

@@ -3,37 +3,32 @@
 
 use crate::answers::{Answers, HEAD, Place};
 use crate::codec_laws::law_end;
-use crate::nested::{Held, Nested};
+use crate::held::Held;
+use crate::nested::Nested;
 use crate::ron_rows::{Written, fields_proof, struct_proof};
 use crate::text_codec::RON;
 use crate::text_fields::field_name;
 use derive_syntax::Holes;
 use std::alloc::{AllocError, Global};
 
-/// The answers for what writes a type, where it is written by several calls.
+/// The answers for what writes types that contain each other, or one that contains itself, where it
+/// is written by several calls.
 pub(crate) fn ron_writer(
     alloc: Global,
-    nested: &Nested<'_>,
+    members: &[Nested<'_>],
     place: &Place<'_>,
 ) -> Result<Option<Answers>, AllocError> {
     let mut cited = String::new(alloc);
     let mut answers = String::new(alloc);
-    for held in &nested.contents {
-        if nested.is_enum && !held.has_fields {
-            continue;
-        }
-        let names = names_of(alloc, nested, held)?;
-        let written = written_by(alloc, nested, (held, &names))?;
-        cited.push_str(if cited.is_empty() { "" } else { ", " })?;
-        cited.push_str(written.cited.as_str())?;
-        answers.push_str(answered(alloc, nested, &names, &written)?.as_str())?;
+    for nested in members {
+        append_answers(alloc, nested, &mut cited, &mut answers)?;
     }
-    if answers.is_empty() {
+    let (Some(nested), false) = (members.first(), answers.is_empty()) else {
         return Ok(None);
-    }
-    let (folder, snake) = (place.folder.as_str(), nested.names.snake.as_str());
+    };
+    let (folder, snake) = (place.folder.as_str(), nested.root().snake.as_str());
     let (library, stem, goals) = (place.library, place.stem.as_str(), place.goals.as_str());
-    let mut holes = nested.holes(alloc);
+    let mut holes = nested.all_holes(alloc)?;
     holes.put("HEAD", HEAD);
     holes.put("LIBRARY", library);
     holes.put("STEM", stem);
@@ -44,6 +39,26 @@ pub(crate) fn ron_writer(
         path: format!(in alloc; "{folder}/+write_{snake}_ron/Answers.antt")?,
         text: holes.fill(WRITER)?,
     }))
+}
+
+/// Appends the answers for what writes a type, and the names that they cite.
+fn append_answers(
+    alloc: Global,
+    nested: &Nested<'_>,
+    cited: &mut String,
+    answers: &mut String,
+) -> Result<(), AllocError> {
+    for held in &nested.contents {
+        if nested.is_enum && !held.has_fields {
+            continue;
+        }
+        let names = names_of(alloc, nested, held)?;
+        let written = written_by(alloc, nested, (held, &names))?;
+        cited.push_str(if cited.is_empty() { "" } else { ", " })?;
+        cited.push_str(written.cited.as_str())?;
+        answers.push_str(answered(alloc, nested, &names, &written)?.as_str())?;
+    }
+    Ok(())
 }
 
 const WRITER: &str = "\
@@ -57,7 +72,7 @@ use Rattle.nano_ron_schema.specs.FieldCodecs.{ron_fields}
 use Rattle.nano_ron_schema.proofs.WrittenFields.{more_lines}
 use Rattle.nano_ron_nested.proofs.WrittenLaws.{written_between}
 use Rattle.$LIBRARY.proofs.$STEMRonCodecsLaws.{$CITED}
-use $GOALS.+write_$SNAKE_ron.Goals as goal
+use $GOALS.+write_$BASE_ron.Goals as goal
 $ANSWERS";
 
 /// The names of what writes a struct, or a variant.

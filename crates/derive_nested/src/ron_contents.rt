@@ -1,7 +1,8 @@
 //! The variants with named fields of a type that contains itself, as RON writes them.
 
 use crate::codec_laws::law_end;
-use crate::nested::{Held, Nested};
+use crate::held::Held;
+use crate::nested::Nested;
 use crate::text_codec::TextTerms;
 use crate::text_laws::written;
 use crate::wrapped::at;
@@ -33,7 +34,7 @@ fn variant_text(
     let name = format!(in alloc; "{snake}_{infix}of_{}", law_end(alloc, held)?)?;
     let mut types = String::new(alloc);
     for leaf in &held.leaves {
-        let of = at(alloc, leaf.part.of.as_str(), nested.names.of.as_str())?;
+        let of = at(alloc, leaf.part.of.as_str(), nested.root().of.as_str())?;
         types.push_str(format!(in alloc; " → {of}")?.as_str())?;
     }
     let values = held.values(alloc)?;

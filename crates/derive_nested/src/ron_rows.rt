@@ -1,7 +1,8 @@
 //! What is proved of the calls that append a struct in RON, or a variant with named fields: the
 //! fields one below the other.
 
-use crate::nested::{Held, Nested};
+use crate::held::Held;
+use crate::nested::Nested;
 use crate::ron_answers::WriterNames;
 use derive_syntax::{Holder, Holes};
 use std::alloc::{AllocError, Global};
@@ -21,13 +22,20 @@ pub(crate) fn struct_proof(
     nested: &Nested<'_>,
     (held, names): (&Held<'_>, &WriterNames),
 ) -> Result<Written, AllocError> {
-    let snake = nested.names.snake.as_str();
+    let mut cited = cited_names(alloc, names)?;
+    let mut law = String::new(alloc);
+    // What a type around the root is written as is seen by computing.
+    if !nested.is_around() {
+        let text = format!(in alloc; "{}_ron_text", nested.names.snake)?;
+        cited.push_str(format!(in alloc; ", {text}")?.as_str())?;
+        law.push_str(format!(in alloc; "rw ({text} c.args.d x)\n    ")?.as_str())?;
+    }
     let fields = terms_of(alloc, names, "x")?;
     let row = row_proof(alloc, (held, &fields), 0, fields.len())?;
     let inside = state_before(alloc, held, fields.len())?;
     let (all, ok) = (row.fields.as_str(), row.ok.as_str());
     Ok(Written {
-        cited: format!(in alloc; "{}, {snake}_ron_text", cited_names(alloc, names)?)?,
+        cited,
         proof: format!(in alloc;
             "    let x = c.args.value.now in
     let inner = c.saturating_add-inner.result in
@@ -35,8 +43,7 @@ pub(crate) fn struct_proof(
     let opened = string_bytes c.st_pre.new.self.out in
     let row =
     {ok} in
-    rw ({snake}_ron_text c.args.d x)
-    (on_ok_weaker c.st_post.result
+    {law}(on_ok_weaker c.st_post.result
     (written_between c.args.d inner {all} before opened
     {inside} (string_bytes c.st_post.new.self.out) c.saturating_add-inner.ensures
     c.in_ok-st_pre.ensures.ok row) c.st_post.ensures.ok)

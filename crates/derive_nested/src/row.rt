@@ -53,6 +53,7 @@ fn row_of_one(alloc: Global, part: &Part, value: &str, legal: &str) -> Result<Ro
     Ok(Row {
         part: Part {
             of: part.of.clone()?,
+            deep: part.deep.clone()?,
             codec: part.codec.clone()?,
             legal: part.legal.clone()?,
             layer: cloned(alloc, &part.layer)?,
@@ -83,6 +84,7 @@ fn both(alloc: Global, first: &Row, second: &Row) -> Result<Row, AllocError> {
     Ok(Row {
         part: Part {
             of: format!(in alloc; "{} × {}", factor(alloc, a)?, factor(alloc, b)?)?,
+            deep: format!(in alloc; "{} × {}", a.deep, b.deep)?,
             codec: format!(in alloc;
                 "pair_codec {} {}",
                 atom(alloc, a.codec.as_str())?,

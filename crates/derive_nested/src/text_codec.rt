@@ -2,8 +2,9 @@
 //! it, and what is encoded at the levels that are read.
 
 use crate::coded::{Coded, nested_record};
-use crate::definitions::equation;
-use crate::nested::{Held, Nested};
+use crate::definitions::{equation, root_first};
+use crate::held::Held;
+use crate::nested::Nested;
 use crate::others::Said;
 use crate::ron_contents::variant_texts;
 use crate::text_layers::{content_layer, content_layers, row_layer};
@@ -42,11 +43,11 @@ pub(crate) struct TextTerms {
 
 impl TextTerms {
     /// The holes of templates in which the names of a type and of the format stand.
-    pub(crate) fn holes(&self, alloc: Global, nested: &Nested<'_>) -> Holes {
-        let mut holes = nested.holes(alloc);
+    pub(crate) fn holes(&self, alloc: Global, nested: &Nested<'_>) -> Result<Holes, AllocError> {
+        let mut holes = nested.all_holes(alloc)?;
         holes.put("SUFFIX", self.name);
         holes.put("INFIX", self.coded.infix);
-        holes
+        Ok(holes)
     }
 }
 
@@ -94,22 +95,43 @@ pub(crate) const RON: TextTerms = TextTerms {
     alone: "chars",
 };
 
-/// The definitions for a format of texts. Given is the format before it, of which what is legal is
-/// known: bytes, or another format of texts.
-pub(crate) fn text_codec(
+/// The definitions for a format of texts of types that contain each other, or of one that contains
+/// itself. Given is the format before it, of which what is legal is known: bytes, or another format
+/// of texts.
+pub(crate) fn text_codecs(
     alloc: Global,
-    nested: &Nested<'_>,
+    members: &[Nested<'_>],
     format: &TextTerms,
     before: Option<&str>,
 ) -> Result<String, AllocError> {
-    let mut text = layer(alloc, nested, format)?;
-    text.push_str(nested_record(alloc, nested, format.coded)?.as_str())?;
-    text.push_str(codec(alloc, nested, format, before)?.as_str())?;
-    if format.name == RON.name {
-        text.push_str(variant_texts(alloc, nested, format)?.as_str())?;
+    let mut text = String::new(alloc);
+    for nested in members {
+        text.push_str(layer(alloc, nested, format)?.as_str())?;
+        text.push_str(nested_record(alloc, nested, format.coded)?.as_str())?;
+    }
+    for nested in root_first(alloc, members)? {
+        let codec = if nested.is_around() {
+            format.holes(alloc, nested)?.fill(AROUND)?
+        } else {
+            codec(alloc, nested, format, before)?
+        };
+        text.push_str(codec.as_str())?;
+        if format.name == RON.name {
+            text.push_str(variant_texts(alloc, nested, format)?.as_str())?;
+        }
     }
     Ok(text)
 }
+
+/// The codecs of a type that is a layer around values of the root.
+const AROUND: &str = "
+-- `$NAME`, around values of at most so many levels, and around those that are read
+abbrev pub $SNAKE_$INFIXat : ℕ → Codec $NAME
+$SNAKE_$INFIXat levels = $SNAKE_around.codec ($BASE_$INFIXat levels)
+
+abbrev pub $SNAKE_$SUFFIX : Codec $NAME
+$SNAKE_$SUFFIX = $SNAKE_around.codec $BASE_$SUFFIX
+";
 
 /// The layer around values of the type itself.
 fn layer(alloc: Global, nested: &Nested<'_>, format: &TextTerms) -> Result<String, AllocError> {
@@ -125,7 +147,7 @@ fn layer(alloc: Global, nested: &Nested<'_>, format: &TextTerms) -> Result<Strin
     } else {
         (format.fields, format.names)
     };
-    let mut holes = format.holes(alloc, nested);
+    let mut holes = format.holes(alloc, nested)?;
     holes.put("OF", format.coded.of);
     holes.put("CONTENTS", contents.as_str());
     holes.put("LAYERS", layers.as_str());
@@ -140,11 +162,11 @@ fn layer(alloc: Global, nested: &Nested<'_>, format: &TextTerms) -> Result<Strin
 const LAYER: &str = "
 -- ==== $NAME: the layer around the values in it
 $CONTENTS
-abbrev pub $SNAKE_$INFIX$KIND : $ROWS $STYLE $NAME ($NAMEContent $NAME)
+abbrev pub $SNAKE_$INFIX$KIND : $ROWS $STYLE $ROOT ($NAMEContent $ROOT)
 $SNAKE_$INFIX$KIND =
     $LAYERS
 
-abbrev pub $SNAKE_$INFIXlayer : Layer $OF$NAME ($NAMEContent $NAME)
+abbrev pub $SNAKE_$INFIXlayer : Layer $OF$ROOT ($NAMEContent $ROOT)
 $SNAKE_$INFIXlayer = $MADE $SNAKE_$INFIX$KIND (λ f. $WRITABLE) (λ f. refl)
 ";
 
@@ -195,7 +217,7 @@ fn codec(
     format: &TextTerms,
     before: Option<&str>,
 ) -> Result<String, AllocError> {
-    let mut holes = format.holes(alloc, nested);
+    let mut holes = format.holes(alloc, nested)?;
     let Some(before) = before else {
         return holes.fill(ALONE);
     };

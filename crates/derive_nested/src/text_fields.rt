@@ -1,7 +1,8 @@
 //! What named fields are written as in a format of texts, and what is proved of several of them.
 
 use crate::codec_laws::law_end;
-use crate::nested::{Held, Nested};
+use crate::held::Held;
+use crate::nested::Nested;
 use crate::text_codec::TextTerms;
 use crate::text_layers::field_codec;
 use crate::wrapped::at;
@@ -14,16 +15,18 @@ pub(crate) fn field_definitions(
     format: &TextTerms,
     held: &Held<'_>,
 ) -> Result<String, AllocError> {
-    let (name, snake) = (nested.names.of.as_str(), nested.names.snake.as_str());
-    let itself = format!(in alloc; "{snake}_{}", format.name)?;
+    let itself = format!(in alloc; "{}_{}", nested.root().snake, format.name)?;
     let mut text = String::new(alloc);
     for (leaf, called) in held.leaves.iter().zip(held.called.iter()) {
         let codec = field_codec(alloc, leaf, itself.as_str())?;
         let defined = field_name(alloc, nested, format, (held, called.as_str()))?;
         let (of, value) = if nested.is_enum {
-            (at(alloc, leaf.part.of.as_str(), name)?, "x")
+            (
+                at(alloc, leaf.part.of.as_str(), nested.root().of.as_str())?,
+                "x",
+            )
         } else {
-            (String::from_str(alloc, name)?, leaf.value.as_str())
+            (nested.names.of.clone()?, leaf.value.as_str())
         };
         let definition = format!(in alloc;
             "

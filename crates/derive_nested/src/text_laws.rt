@@ -2,8 +2,9 @@
 //! or the struct, and of the first format that a type has, when a value is legal.
 
 use crate::codec_laws::{Variant, binders, law_end, variant_at};
+use crate::held::Held;
 use crate::legal_laws::{Known, struct_legal, variant_legal};
-use crate::nested::{Held, Nested};
+use crate::nested::Nested;
 use crate::text_codec::TextTerms;
 use crate::text_fields::field_definitions;
 use crate::text_layers::content_name;
@@ -48,6 +49,7 @@ fn legal_law(
     let (snake, end, infix) = (nested.names.snake.as_str(), format.name, format.coded.infix);
     let known = Known {
         codec: format!(in alloc; "{snake}_{end}")?,
+        within: format!(in alloc; "{}_{end}", nested.root().snake)?,
         law: format!(in alloc; "legal_seen {snake}_{infix}nested {}", nested.limit)?,
     };
     if nested.is_enum {
@@ -77,20 +79,24 @@ fn struct_law(
     held: &Held<'_>,
 ) -> Result<String, AllocError> {
     let parts = field_definitions(alloc, nested, format, held)?;
-    let mut holes = format.holes(alloc, nested);
+    let mut holes = format.holes(alloc, nested)?;
+    let proof = holes.fill(if nested.is_around() { "refl" } else { TEXT })?;
     holes.put("PARTS", parts.as_str());
     holes.put("STYLE", format.fields);
+    holes.put("PROOF", proof.as_str());
     holes.fill(STRUCT_LAW)
 }
+
+const TEXT: &str = "text_seen $SNAKE_$INFIXnested $LIMIT d x ($SNAKE_view x) refl";
 
 const STRUCT_LAW: &str = "$PARTS
 abbrev pub $SNAKE_$INFIXwritten : $NAME → List (WrittenField Token)
 $SNAKE_$INFIXwritten x =
-    ($SNAKE_$INFIXfields.codec $SNAKE_$SUFFIX).canonical.fields ($SNAKE_view x)
+    ($SNAKE_$INFIXfields.codec $BASE_$SUFFIX).canonical.fields ($SNAKE_view x)
 
 pub $SNAKE_$INFIXtext : (d : ℕ) → (x : $NAME) → $SNAKE_$SUFFIX.canonical.text d x
     ≡ fields_text $STYLE d ($SNAKE_$INFIXwritten x)
-$SNAKE_$INFIXtext d x = text_seen $SNAKE_$INFIXnested $LIMIT d x ($SNAKE_view x) refl
+$SNAKE_$INFIXtext d x = $PROOF
 ";
 
 /// How a variant at its place is written.
@@ -104,7 +110,7 @@ fn variant_law(
     let (end, values) = (law_end(alloc, held)?, held.values(alloc)?);
     let parts = binders(alloc, nested, held)?;
     let written = written(alloc, nested, format, held)?;
-    let mut holes = format.holes(alloc, nested);
+    let mut holes = format.holes(alloc, nested)?;
     holes.put("END", end.as_str());
     holes.put("PARTS", parts.as_str());
     holes.put("VALUE", value.as_str());
@@ -131,7 +137,7 @@ pub(crate) fn written(
     held: &Held<'_>,
 ) -> Result<String, AllocError> {
     let snake = nested.names.snake.as_str();
-    let itself = format!(in alloc; "{snake}_{}", format.name)?;
+    let itself = format!(in alloc; "{}_{}", nested.root().snake, format.name)?;
     let (name, value) = (held.key.as_str(), held.row.value.as_str());
     if held.has_fields {
         let layer = content_name(alloc, format, snake, held)?;

@@ -1,12 +1,13 @@
 //! The layers of parts, fields and contents in a format of texts.
 
 use crate::codec_laws::law_end;
+use crate::held::Held;
 use crate::maps::map_layer;
-use crate::nested::{Held, Nested};
+use crate::nested::Nested;
 use crate::row::Leaf;
 use crate::text_codec::TextTerms;
 use crate::wrapped::{at, atom};
-use derive_syntax::{Holder, Holes};
+use derive_syntax::{Case, Core, Holder, Holes};
 use std::alloc::{AllocError, Global};
 
 /// The layer of what a variant holds, or nothing where its name stands alone. That of named fields
@@ -67,7 +68,7 @@ fn fields_layer(
     format: &TextTerms,
     held: &Held<'_>,
 ) -> Result<String, AllocError> {
-    let name = nested.names.of.as_str();
+    let name = nested.root().of.as_str();
     let layer = content_name(alloc, format, nested.names.snake.as_str(), held)?;
     let seen = at(alloc, held.row.part.of.as_str(), name)?;
     let row = row_layer(alloc, format, &held.leaves)?;
@@ -166,7 +167,10 @@ fn part_layer(
     if !leaf.nested.is_within() {
         return format!(in alloc; "other_layer {}", atom(alloc, leaf.part.codec.as_str())?);
     }
-    let mut layer = String::from_str(alloc, "itself_layer")?;
+    let mut layer = match leaf.nested.core {
+        Core::Around(name) => format!(in alloc; "{}_around", Case::Snake.of_variant(alloc, name)?)?,
+        _ => String::from_str(alloc, "itself_layer")?,
+    };
     for holder in holders.iter().rev() {
         let held = atom(alloc, layer.as_str())?;
         layer = match *holder {

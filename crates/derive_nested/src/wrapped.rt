@@ -29,6 +29,7 @@ fn boxed(alloc: Global, names: &Names, part: &Part) -> Result<Part, AllocError> 
     let of = atom(alloc, of.as_str())?;
     Ok(Part {
         of: format!(in alloc; "Box {} Global", atom(alloc, part.of.as_str())?)?,
+        deep: format!(in alloc; "Box {} Global", atom(alloc, part.deep.as_str())?)?,
         codec: format!(in alloc;
             "codec_as (λ (x : Box {of} Global). x.value) {}",
             atom(alloc, part.codec.as_str())?
@@ -79,6 +80,7 @@ fn optional(alloc: Global, part: &Part) -> Result<Part, AllocError> {
     };
     Ok(Part {
         of: format!(in alloc; "Option {}", atom(alloc, part.of.as_str())?)?,
+        deep: format!(in alloc; "Option {}", atom(alloc, part.deep.as_str())?)?,
         codec: format!(in alloc; "option_codec {}", atom(alloc, part.codec.as_str())?)?,
         legal: format!(in alloc; "LegalOption {}", atom(alloc, part.legal.as_str())?)?,
         layer: layered(alloc, "option_layer ", &part.layer, "")?,
@@ -101,10 +103,11 @@ fn listed(alloc: Global, names: &Names, part: &Part) -> Result<Part, AllocError>
     let codec = atom(alloc, part.codec.as_str())?;
     let means = function(alloc, part.means.as_str())?;
     let within = part.layer.is_some();
-    let mapped = within && part.step.as_str() != "$";
+    let mapped = within && !is_itself(part);
     let (means_same, depth_same) = (&part.means_same, &part.depth_same);
     Ok(Part {
         of: format!(in alloc; "Vec {} Global", atom(alloc, part.of.as_str())?)?,
+        deep: format!(in alloc; "Vec {} Global", atom(alloc, part.deep.as_str())?)?,
         codec: format!(in alloc;
             "codec_as (λ (x : Vec {of} Global). x.items) (list_codec {codec})"
         )?,
@@ -124,9 +127,14 @@ fn listed(alloc: Global, names: &Names, part: &Part) -> Result<Part, AllocError>
     })
 }
 
+/// Whether a part is the type itself.
+fn is_itself(part: &Part) -> bool {
+    part.step.as_str() == "$" && part.means_same.is_none()
+}
+
 /// What a list means, where the values of the type itself are meanings.
 fn listed_step(alloc: Global, part: &Part) -> Result<String, AllocError> {
-    if part.step.as_str() == "$" {
+    if is_itself(part) {
         return String::from_str(alloc, "listed $.items");
     }
     let step = function(alloc, part.step.as_str())?;

@@ -1,3 +1,0 @@
-mod Cases
-mod Places
-mod ShownLemmas

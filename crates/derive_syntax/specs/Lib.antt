@@ -1,5 +1,0 @@
-pub mod Below
-pub mod Cases
-pub mod Errors
-pub mod Place
-pub mod Shown

@@ -10,10 +10,10 @@ mod nested;
 mod nested_json;
 mod shared;
 
-use crate::fault::Fault;
 use crate::syntax::Source;
 pub use defaults::{Missing, missing_value};
 use definitions::check_definition;
+use derive_source::Fault;
 use names::check_distinct;
 pub use names::{field_name, variant_name};
 use nested::check_nested;

@@ -1,8 +1,9 @@
-//! Types that contain themselves: which they are, and what their parts are made of.
+//! Types that contain themselves or each other: what their parts are made of.
 
-use crate::fault::Fault;
+use crate::cycle::Cycle;
 use crate::syntax::{Content, Definition, Field, Shape, Type, Variant};
 use crate::token::{Token, TokenKind};
+use derive_source::Fault;
 use std::alloc::Global;
 
 /// A type of the library that a part of a type that contains itself may stand in.
@@ -21,8 +22,10 @@ pub enum Holder<'a> {
 /// What a part is, within all types that it stands in.
 #[derive(Clone, Copy, PartialEq)]
 pub enum Core<'a> {
-    /// The type itself.
+    /// The type itself, or the one that it leads back to itself through.
     Itself,
+    /// Another type that leads back to itself through the same one, by its name.
+    Around(&'a str),
     /// A type of Rust's, by its name.
     Plain(&'a str),
     /// Another user-defined type, by its name.
@@ -41,16 +44,11 @@ pub struct NestedPart<'a> {
 impl NestedPart<'_> {
     /// Whether it holds values of the type itself.
     pub fn is_within(&self) -> bool {
-        self.core == Core::Itself
+        matches!(self.core, Core::Itself | Core::Around(_))
     }
 }
 
 impl<'a> Definition<'a> {
-    /// Whether the type has itself among its fields or parts.
-    pub fn contains_itself(&self) -> bool {
-        self.place_of(self.name).is_some()
-    }
-
     /// The first place in its fields or parts at which a type of this name stands. A word within a
     /// path is none.
     pub(crate) fn place_of(&self, name: Token<'a>) -> Option<Token<'a>> {
@@ -121,7 +119,7 @@ const ENDLESS: &str = "stands in itself with no `Box`, no `Vec` and no `BTreeMap
 const INNER: &str = "has an `Option` of the type that contains itself within it: such an `Option` \
     is the whole of a part";
 
-/// What the type of a part is made of, in the type of this name, which contains itself.
+/// What the type of a part is made of, in one of these types.
 ///
 /// # Errors
 ///
@@ -129,7 +127,7 @@ const INNER: &str = "has an `Option` of the type that contains itself within it:
 /// allocation fails.
 pub fn nested_part<'a>(
     alloc: Global,
-    name: Token<'a>,
+    cycle: &Cycle<'a>,
     of: Type<'a>,
 ) -> Result<NestedPart<'a>, Fault> {
     let mut holders = Vec::new(alloc);
@@ -141,15 +139,18 @@ pub fn nested_part<'a>(
         holders.push(holder)?;
         inner = held;
     }
-    let held = holders.get(1..).unwrap_or(&[]);
-    match core_of(name, inner) {
-        Some(core) if core == Core::Itself && held.contains(&Holder::Option) => {
-            Err(fault_at(of, INNER))
-        }
-        Some(core) if core == Core::Itself && !has_end(&holders) => Err(fault_at(inner, ENDLESS)),
-        Some(core) => Ok(NestedPart { holders, core }),
-        None => Err(fault_at(inner, NO_PART)),
+    let Some(core) = core_of(cycle, inner) else {
+        return Err(fault_at(inner, NO_PART));
+    };
+    let part = NestedPart { holders, core };
+    let held = part.holders.get(1..).unwrap_or(&[]);
+    if part.is_within() && held.contains(&Holder::Option) {
+        return Err(fault_at(of, INNER));
     }
+    if cycle.is_one() && part.is_within() && !has_end(&part.holders) {
+        return Err(fault_at(inner, ENDLESS));
+    }
+    Ok(part)
 }
 
 /// A fault at the first token of a type.
@@ -194,22 +195,20 @@ fn between<'a>(of: Type<'a>) -> Option<Type<'a>> {
 
 /// A map of what stands between its angle brackets: a key, a comma and a value.
 fn map_of<'a>(between: Type<'a>) -> Result<Option<(Holder<'a>, Type<'a>)>, Fault> {
-    let Some(key) = between.0.first() else {
-        return Ok(None);
-    };
-    let (comma, value) = (between.0.get(1), between.0.get(2..));
-    match (comma, value) {
-        (Some(comma), Some(value)) if comma.is(",") && KEYS.contains(&key.text) => {
+    match between.0 {
+        [key, comma, value @ ..] if comma.is(",") && KEYS.contains(&key.text) => {
             Ok(Some((Holder::BTreeMap(key.text), Type(value))))
         }
-        _ => Err(key.fault(NO_KEY)),
+        [key, _next, ..] => Err(key.fault(NO_KEY)),
+        _ => Ok(None),
     }
 }
 
-/// What a type is that stands in no other: the type of this name, one of Rust's, or another one.
-fn core_of<'a>(name: Token<'a>, of: Type<'a>) -> Option<Core<'a>> {
+/// What a type is that stands in no other: one of these types, one of Rust's, or another one.
+fn core_of<'a>(cycle: &Cycle<'a>, of: Type<'a>) -> Option<Core<'a>> {
     match of.0 {
-        [word] if word.text == name.text => Some(Core::Itself),
+        [word] if cycle.is_root(*word) => Some(Core::Itself),
+        [word] if word.is_among(&cycle.names) => Some(Core::Around(word.text)),
         [word] if PLAIN.contains(&word.text) => Some(Core::Plain(word.text)),
         [word] if word.kind == TokenKind::Word => Some(Core::Other(word.text)),
         [open, close] if open.is("(") && close.is(")") => Some(Core::Plain("()")),

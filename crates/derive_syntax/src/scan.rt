@@ -2,9 +2,9 @@
 //! whose words are cut as the source is.
 
 use crate::comment;
-use crate::fault::Fault;
 use crate::state::State;
 use crate::token::{Token, TokenKind};
+use derive_source::Fault;
 use std::alloc::Global;
 
 const ATTRIBUTE: &str = "// nanoserde:";

@@ -1,7 +1,7 @@
 //! The definitions of a file, as far as the generator asks for it.
 
-use crate::case::Case;
 use crate::token::{Token, TokenKind};
+use derive_source::Case;
 use std::alloc::{AllocError, Global};
 
 /// A type: its tokens.
@@ -81,6 +81,8 @@ pub struct Attributes<'a> {
     pub is_serde: bool,
     /// The name of an attribute of Rust by which something is left out.
     pub cfg: Option<Token<'a>>,
+    /// The name of the attribute that stands above types that contain each other.
+    pub cycle: Option<Token<'a>>,
 }
 
 impl<'a> Attributes<'a> {

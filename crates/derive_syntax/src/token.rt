@@ -1,6 +1,6 @@
 //! Tokens of the part of Rust that the generator reads.
 
-use crate::fault::{Fault, Subject};
+use derive_source::{Fault, Subject};
 
 /// What a token is.
 #[derive(Clone, Copy, PartialEq)]

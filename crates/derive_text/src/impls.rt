@@ -1,8 +1,8 @@
 //! From a source to the impls of its structs and enums.
 
 ghost use Rattle.std.specs.Prelude.{IfOk, IfErr};
-ghost use Rattle.derive_syntax.specs.Below.{IsDerived};
-ghost use Rattle.derive_syntax.specs.Errors.{IsErrorIn};
+ghost use Rattle.derive_source.specs.Below.{IsDerived};
+ghost use Rattle.derive_source.specs.Errors.{IsErrorIn};
 
 use crate::output::impls;
 use derive_syntax::{

@@ -38,7 +38,7 @@ pub(crate) fn impls<'a>(
     let mut is_empty = true;
     for definition in &source.definitions {
         if definition.attributes.codec.is_some() {
-            append_impls(&mut sheet, module, definition)?;
+            append_impls(&mut sheet, module, source, definition)?;
             is_empty = false;
         }
     }
@@ -52,11 +52,11 @@ pub(crate) fn impls<'a>(
 fn append_impls<'a>(
     sheet: &mut Sheet,
     module: &'a str,
+    source: &Source<'a>,
     definition: &Definition<'a>,
 ) -> Result<(), Fault> {
-    if definition.contains_itself() {
-        append_nested(sheet, module, definition)
-    } else {
-        append_flat(sheet, module, definition)
+    match source.cycle_of(sheet.alloc, definition)? {
+        Some(cycle) => append_nested(sheet, module, (source, definition), cycle),
+        None => append_flat(sheet, module, definition),
     }
 }

@@ -8,6 +8,10 @@ mod case_faults;
 #[cfg(test)]
 mod case_tests;
 #[cfg(test)]
+mod cycle_faults;
+#[cfg(test)]
+mod cycle_forms;
+#[cfg(test)]
 mod default_faults;
 #[cfg(test)]
 mod fault_tests;

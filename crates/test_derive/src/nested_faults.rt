@@ -229,31 +229,3 @@ struct A {
     a: Vec<A>,
 }
 => 3:19: `levels` stands only above a struct or an enum"#;
-
-/// Types contain each other.
-pub(crate) const CIRCLES: &str = r#"// nanoserde: json
-struct A {
-    a: Vec<B>,
-}
-
-// nanoserde: json
-struct B {
-    a: Option<A>,
-}
-=> 3:12: `B` leads back to the type that it stands in
-----
-// nanoserde: bin
-enum A {
-    C(u8),
-    D { a: Box<B> },
-}
-
-// nanoserde: bin
-struct B(u8, C);
-
-// nanoserde: bin
-enum C {
-    E,
-    F(Vec<A>),
-}
-=> 4:16: `B` leads back to the type that it stands in"#;

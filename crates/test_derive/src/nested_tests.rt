@@ -1,8 +1,10 @@
 //! Types that contain themselves: what is written of them, and what is not.
 
+use crate::cycle_faults::CYCLES;
+use crate::cycle_forms::{CYCLE_FILES, CYCLE_IMPLS};
 use crate::fault_tests::are_reported;
 use crate::form_tests::{are_written, has_lines};
-use crate::nested_faults::{CIRCLES, NESTED};
+use crate::nested_faults::NESTED;
 use crate::nested_forms::{FILES, IMPLS};
 use crate::outcome::MODULE;
 use derive_nested::{DeriveError, NestedFile, nested_files};
@@ -64,11 +66,13 @@ fn is_reported(alloc: Global) -> bool {
 #[test]
 fn impls_are_written_within_levels(rt: HostRuntime) {
     are_written(&rt, rt.alloc(), IMPLS);
+    are_written(&rt, rt.alloc(), CYCLE_IMPLS);
 }
 
 #[test]
 fn definitions_and_laws_stand_beside_the_sources(rt: HostRuntime) {
     are_beside(&rt, rt.alloc(), FILES);
+    are_beside(&rt, rt.alloc(), CYCLE_FILES);
 }
 
 #[test]
@@ -81,5 +85,5 @@ fn other_types_have_no_files(rt: HostRuntime) {
 #[test]
 fn a_type_contains_itself_in_some_ways_alone(rt: HostRuntime) {
     are_reported(&rt, rt.alloc(), NESTED);
-    are_reported(&rt, rt.alloc(), CIRCLES);
+    are_reported(&rt, rt.alloc(), CYCLES);
 }

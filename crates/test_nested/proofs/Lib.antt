@@ -1,4 +1,7 @@
 mod Outlines
-mod Statements
-mod StatementsJson
-mod StatementsRon
+mod StatementCodecsLaws
+mod StatementJsonCodecsLaws
+mod StatementRonCodecsLaws
+mod GuideCodecsLaws
+mod GuideJsonCodecsLaws
+mod GuideRonCodecsLaws

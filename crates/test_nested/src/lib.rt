@@ -1,11 +1,15 @@
-//! User-defined types that contain themselves, or each other, whose impls are written by hand: an
-//! outline as bytes, and statements with their branches as bytes, in JSON and in RON.
+//! User-defined types that contain themselves or each other: an outline as bytes, whose impls are
+//! written by hand, and statements with their branches and guides with their stops, whose impls
+//! `derive` writes.
 #![tactic(auto)]
 
 #[cfg(test)]
 mod bin_tests;
 #[cfg(test)]
 mod checks;
+mod guide;
+#[cfg(test)]
+mod guide_tests;
 #[cfg(test)]
 mod json_checks;
 mod outline;
@@ -15,5 +19,6 @@ mod statement_json_tests;
 #[cfg(test)]
 mod statement_ron_tests;
 
+pub use guide::{Guide, Stop, Way};
 pub use outline::Outline;
 pub use statement::{Branch, Statement};

@@ -2,6 +2,7 @@
 //! and RON.
 
 /// A statement.
+// nanoserde: bin json ron
 #[derive(PartialEq, Debug, Drop)]
 #[cycle(statement)]
 pub enum Statement {
@@ -14,6 +15,7 @@ pub enum Statement {
 }
 
 /// A choice of statements.
+// nanoserde: bin json ron
 #[derive(PartialEq, Debug, Drop)]
 #[cycle(statement)]
 pub struct Branch {
@@ -23,6 +25,4 @@ pub struct Branch {
     pub otherwise: Option<Box<Statement>>,
 }
 
-mod impls;
-mod json;
-mod ron;
+mod derived;

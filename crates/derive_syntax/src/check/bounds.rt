@@ -1,7 +1,7 @@
 //! What is asked of type parameters.
 
-use crate::fault::Fault;
 use crate::syntax::{Definition, Type};
+use derive_source::Fault;
 
 /// The traits by which each impl bounds the type parameters.
 const OF_FORMATS: [&str; 12] = [

@@ -2,9 +2,9 @@
 
 use crate::check::known::{is_defined, is_imported};
 use crate::check::names::within;
-use crate::fault::Fault;
 use crate::syntax::{Definition, Field, Source, Type};
 use crate::token::{Token, TokenKind};
+use derive_source::Fault;
 
 /// What a field has where it is missing.
 #[derive(Clone, Copy)]

@@ -1,15 +1,14 @@
 //! One struct or enum.
 
-use crate::case::Case;
 use crate::check::bounds::check_bounds;
 use crate::check::defaults::check_default;
 use crate::check::keys::check_key;
 use crate::check::known::check_type;
 use crate::check::names::{EncodedName, check_distinct, check_encoded, check_name};
-use crate::fault::Fault;
 use crate::parse::AS_COMMENT;
 use crate::syntax::{Attributes, Content, Definition, Field, Shape, Source, Type, Variant};
 use crate::token::Token;
+use derive_source::{Case, Fault};
 use std::alloc::Global;
 
 const NO_CODEC: &str = "stands in a type with no formats: write `// nanoserde: bin json ron` above \

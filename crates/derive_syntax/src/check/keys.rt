@@ -1,8 +1,8 @@
 //! Types that are called keys.
 
-use crate::fault::Fault;
 use crate::parse::KEY_TRAITS;
 use crate::syntax::{Content, Definition, Shape, Variant};
+use derive_source::Fault;
 
 const TRAITS: &str = "is for a type that is compared and hashed: write `#[derive(PartialEq, Eq, \
     PartialOrd, Ord, Hash)]` above it, with what else it derives";

@@ -2,9 +2,9 @@
 //! a line brings in.
 
 use crate::check::shared::is_shared;
-use crate::fault::Fault;
 use crate::syntax::{Attributes, Definition, Source, Type};
 use crate::token::{Token, TokenKind};
+use derive_source::Fault;
 
 const PRELUDE: [&str; 15] = [
     "bool", "u8", "u16", "u32", "u64", "u128", "usize", "i8", "i16", "i32", "i64", "i128",

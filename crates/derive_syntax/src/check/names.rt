@@ -1,9 +1,8 @@
 //! Names of types, fields and variants.
 
-use crate::case::Case;
-use crate::fault::Fault;
 use crate::syntax::{Attributes, Field, Variant};
 use crate::token::{Token, TokenKind};
+use derive_source::{Case, Fault};
 use std::alloc::{AllocError, Global};
 
 /// A name under which something is read and written.

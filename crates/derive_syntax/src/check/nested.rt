@@ -3,14 +3,12 @@
 use crate::check::defaults::is_number;
 use crate::check::known::is_defined;
 use crate::check::nested_json::check_nested_json;
-use crate::fault::Fault;
+use crate::cycle::Cycle;
 use crate::nested::{Core, nested_part};
 use crate::syntax::{Attributes, Content, Definition, Field, Shape, Source, Type, Variant};
 use crate::token::{Token, TokenKind};
-use std::alloc::{AllocError, Global};
-
-const CIRCLE: &str = "leads back to the type that it stands in: types that contain each other have \
-    no format here";
+use derive_source::Fault;
+use std::alloc::Global;
 
 const TUPLE: &str = "is a tuple struct that contains itself: give its parts names";
 
@@ -25,6 +23,17 @@ const WORDS: [&str; 4] = ["bin", "json", "ron", "levels"];
 
 const NO_LEVELS: &str = "is for a type that contains itself, and this one does not";
 
+const NO_ROOT: &str =
+    "stands above a type whose levels are not counted: of types that contain each \
+    other those of the one on each way back are";
+
+const NO_SAME: &str = "is one of types that contain each other: the same line with formats stands \
+    above each of them";
+
+const NO_CYCLE: &str =
+    "is one of types that contain each other: `#[cycle(name)]` stands above each \
+    of them, with one name";
+
 const NO_LIMIT: &str = "is no number of levels: that is one from 1 to 128";
 
 const NO_MODULE: &str =
@@ -38,8 +47,8 @@ const NO_FILE: &str = "contains itself, or has a part that does, and stands in a
 const NO_WORD: &str = "stands in a type that contains itself: above its fields and variants is no \
     attribute but `rename`";
 
-/// An error where a type with formats contains itself in a way that is not written, or contains
-/// another one that contains it.
+/// An error where a type with formats contains itself in a way that is not written, by however many
+/// other types.
 pub(crate) fn check_nested<'a>(
     alloc: Global,
     source: &Source<'a>,
@@ -48,39 +57,65 @@ pub(crate) fn check_nested<'a>(
     if definition.attributes.codec.is_none() {
         return Ok(());
     }
-    check_circle(alloc, source, definition)?;
-    check_levels(definition)?;
-    if !definition.contains_itself() {
+    let cycle = source.cycle_of(alloc, definition)?;
+    check_levels(definition, &cycle)?;
+    let Some(cycle) = cycle else {
         return Ok(());
-    }
+    };
     if let Some(parameter) = definition.parameters.first() {
         return Err(parameter.fault(GENERIC));
     }
     check_formats(definition.attributes)?;
+    check_same(source, definition, &cycle)?;
     let attributes = definition.attributes;
     if attributes.json.is_used() || attributes.ron.is_used() {
         check_nested_json(definition)?;
     }
     match &definition.shape {
-        Shape::Fields(fields) => check_fields(alloc, source, definition.name, fields),
+        Shape::Fields(fields) => check_fields(alloc, source, &cycle, fields),
         Shape::Parts(_parts) => Err(definition.name.fault(TUPLE)),
-        Shape::Variants(variants) => check_variants(alloc, source, definition.name, variants),
+        Shape::Variants(variants) => check_variants(alloc, source, &cycle, variants),
     }
 }
 
 /// An error where a limit of levels is no number of them, or stands above a type that has none.
-fn check_levels<'a>(definition: &Definition<'a>) -> Result<(), Fault> {
+fn check_levels<'a>(definition: &Definition<'a>, cycle: &Option<Cycle<'a>>) -> Result<(), Fault> {
     let Some(limit) = definition.attributes.levels else {
         return Ok(());
     };
-    if !definition.contains_itself() {
-        return Err(limit.fault(NO_LEVELS));
+    match cycle {
+        None => return Err(limit.fault(NO_LEVELS)),
+        Some(cycle) if !cycle.is_root(definition.name) => return Err(limit.fault(NO_ROOT)),
+        Some(_cycle) => {}
     }
     let number = limit.quoted();
     match number.parse::<u8>() {
         Ok(levels) if levels >= 1 && levels <= 128 && is_number("u8", number) => Ok(()),
         _ => Err(limit.fault(NO_LIMIT)),
     }
+}
+
+/// An error at the name of one of several types that has other formats, or no cycle.
+fn check_same<'a>(
+    source: &Source<'a>,
+    definition: &Definition<'a>,
+    cycle: &Cycle<'a>,
+) -> Result<(), Fault> {
+    let here = definition.attributes;
+    for other in &source.definitions {
+        let there = other.attributes;
+        let is_same = there.bin == here.bin && there.json == here.json && there.ron == here.ron;
+        if cycle.is_one() || !other.name.is_among(&cycle.names) {
+            continue;
+        }
+        if !is_same {
+            return Err(other.name.fault(NO_SAME));
+        }
+        if there.cycle.is_none() {
+            return Err(other.name.fault(NO_CYCLE));
+        }
+    }
+    Ok(())
 }
 
 /// An error at the first word above a type that asks for more than these formats in both directions.
@@ -103,12 +138,12 @@ fn check_formats(attributes: Attributes<'_>) -> Result<(), Fault> {
 fn check_fields<'a>(
     alloc: Global,
     source: &Source<'a>,
-    name: Token<'a>,
+    cycle: &Cycle<'a>,
     fields: &[Field<'a>],
 ) -> Result<(), Fault> {
     for field in fields {
         check_words(alloc, field.attributes)?;
-        check_part(alloc, source, name, field.of)?;
+        check_part(alloc, source, cycle, field.of)?;
     }
     Ok(())
 }
@@ -130,11 +165,11 @@ fn check_words(alloc: Global, attributes: Attributes<'_>) -> Result<(), Fault> {
 fn check_parts<'a>(
     alloc: Global,
     source: &Source<'a>,
-    name: Token<'a>,
+    cycle: &Cycle<'a>,
     parts: &[Type<'a>],
 ) -> Result<(), Fault> {
     for part in parts {
-        check_part(alloc, source, name, *part)?;
+        check_part(alloc, source, cycle, *part)?;
     }
     Ok(())
 }
@@ -143,10 +178,10 @@ fn check_parts<'a>(
 fn check_part<'a>(
     alloc: Global,
     source: &Source<'a>,
-    name: Token<'a>,
+    cycle: &Cycle<'a>,
     of: Type<'a>,
 ) -> Result<(), Fault> {
-    let part = nested_part(alloc, name, of)?;
+    let part = nested_part(alloc, cycle, of)?;
     let Core::Other(other) = part.core else {
         return Ok(());
     };
@@ -159,7 +194,7 @@ fn check_part<'a>(
 }
 
 /// An error at another type that no type of the file is and no line brings in, or that is one of the
-/// file and leads to one that contains itself.
+/// file and contains itself or leads to one that does.
 fn check_other<'a>(alloc: Global, source: &Source<'a>, other: Token<'a>) -> Result<(), Fault> {
     if !is_defined(source, other) {
         return match source.module_of_type(alloc, other.text)? {
@@ -167,8 +202,9 @@ fn check_other<'a>(alloc: Global, source: &Source<'a>, other: Token<'a>) -> Resu
             None => Err(other.fault(NO_MODULE)),
         };
     }
-    for definition in &source.definitions {
-        if definition.contains_itself() && leads_to(alloc, source, other, definition.name)? {
+    let contained = source.contained_in(alloc, other)?;
+    for name in &contained {
+        if name.is_among(&source.contained_in(alloc, *name)?) {
             return Err(other.fault(NO_FILE));
         }
     }
@@ -179,69 +215,15 @@ fn check_other<'a>(alloc: Global, source: &Source<'a>, other: Token<'a>) -> Resu
 fn check_variants<'a>(
     alloc: Global,
     source: &Source<'a>,
-    name: Token<'a>,
+    cycle: &Cycle<'a>,
     variants: &[Variant<'a>],
 ) -> Result<(), Fault> {
     for variant in variants {
         match &variant.content {
             Content::Nothing => {}
-            Content::Parts(parts) => check_parts(alloc, source, name, parts)?,
-            Content::Fields(fields) => check_fields(alloc, source, name, fields)?,
+            Content::Parts(parts) => check_parts(alloc, source, cycle, parts)?,
+            Content::Fields(fields) => check_fields(alloc, source, cycle, fields)?,
         }
     }
     Ok(())
-}
-
-/// An error at another type that contains this one, by however many types of the file.
-fn check_circle<'a>(
-    alloc: Global,
-    source: &Source<'a>,
-    definition: &Definition<'a>,
-) -> Result<(), Fault> {
-    for other in &source.definitions {
-        if other.name.text == definition.name.text {
-            continue;
-        }
-        if let Some(word) = definition.place_of(other.name) {
-            if leads_to(alloc, source, other.name, definition.name)? {
-                return Err(word.fault(CIRCLE));
-            }
-        }
-    }
-    Ok(())
-}
-
-/// Whether one type of the file contains another, by however many types of it.
-fn leads_to<'a>(
-    alloc: Global,
-    source: &Source<'a>,
-    from: Token<'a>,
-    to: Token<'a>,
-) -> Result<bool, AllocError> {
-    let mut reached = Vec::new(alloc);
-    reached.push(from)?;
-    for _turn in &source.definitions {
-        add_contained(source, &mut reached)?;
-    }
-    Ok(to.is_among(&reached))
-}
-
-/// Adds the types that those which are reached contain.
-fn add_contained<'a>(source: &Source<'a>, reached: &mut Vec<Token<'a>>) -> Result<(), AllocError> {
-    for definition in &source.definitions {
-        if !definition.name.is_among(reached) && is_contained(source, reached, definition.name) {
-            reached.push(definition.name)?;
-        }
-    }
-    Ok(())
-}
-
-/// Whether one of these types contains this one.
-fn is_contained<'a>(source: &Source<'a>, reached: &[Token<'a>], name: Token<'a>) -> bool {
-    for definition in &source.definitions {
-        if definition.name.is_among(reached) && definition.place_of(name).is_some() {
-            return true;
-        }
-    }
-    false
 }

@@ -1,7 +1,7 @@
 //! Types that contain themselves, in JSON and RON.
 
-use crate::fault::Fault;
 use crate::syntax::{Content, Definition, Shape};
+use derive_source::Fault;
 
 const PARTS: &str =
     "has more than two parts, which no variant has in JSON and RON of an enum that contains \

@@ -1,10 +1,9 @@
 //! Comments `// nanoserde: ..`, and Rust's attributes, which are passed over.
 
-use crate::case::Case;
-use crate::fault::Fault;
 use crate::parse::cursor::Cursor;
 use crate::syntax::{Attributes, Directions};
 use crate::token::{Token, TokenKind};
+use derive_source::{Case, Fault};
 
 /// What stands below an attribute.
 #[derive(Clone, Copy, PartialEq)]
@@ -45,6 +44,7 @@ const NO_ATTRIBUTES: Attributes = Attributes {
     serde: None,
     is_serde: false,
     cfg: None,
+    cycle: None,
 };
 
 /// Takes what stands above something.
@@ -96,6 +96,9 @@ fn rust_attribute<'a>(
     }
     if cursor.is_at("cfg") {
         attributes.cfg = cursor.peek();
+    }
+    if cursor.is_at("cycle") {
+        attributes.cycle = cursor.peek();
     }
     let is_derive = cursor.is_at("derive");
     let mut depth = 1usize;

@@ -1,10 +1,10 @@
 //! Type parameters, and what is asked of them.
 
-use crate::fault::Fault;
 use crate::parse::cursor::Cursor;
 use crate::parse::types::parse_type;
 use crate::syntax::{Bound, Type};
 use crate::token::{Token, TokenKind};
+use derive_source::Fault;
 use std::alloc::Global;
 
 /// Takes type parameters, if there are any, and adds their bounds.

@@ -1,7 +1,7 @@
 //! Brackets: each that opens is closed.
 
-use crate::fault::Fault;
 use crate::token::{Token, TokenKind};
+use derive_source::Fault;
 use std::alloc::Global;
 
 /// An error at the first bracket that another kind closes, or that closes none; and at the last one

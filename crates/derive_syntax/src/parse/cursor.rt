@@ -1,7 +1,7 @@
 //! The tokens of a source, as far as they are taken.
 
-use crate::fault::{Fault, Subject};
 use crate::token::{Token, TokenKind};
+use derive_source::{Fault, Subject};
 
 /// The tokens of a source, as far as they are taken.
 #[derive(Drop)]

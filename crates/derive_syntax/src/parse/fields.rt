@@ -1,11 +1,11 @@
 //! Fields, parts and variants.
 
-use crate::fault::Fault;
 use crate::parse::attributes::{Below, attributes};
 use crate::parse::cursor::Cursor;
 use crate::parse::types::parse_type;
 use crate::syntax::{Attributes, Content, Field, Type, Variant};
 use crate::token::Token;
+use derive_source::Fault;
 use std::alloc::Global;
 
 const MOST_PARTS: usize = 4;

@@ -1,7 +1,6 @@
 //! The items of a file: structs and enums are taken, lines that end in a semicolon are
 //! passed over, and anything else is an error.
 
-use crate::fault::Fault;
 use crate::parse::attributes::{Below, attributes};
 use crate::parse::bounds::{parameters, where_clause};
 use crate::parse::brackets::check_brackets;
@@ -9,6 +8,7 @@ use crate::parse::cursor::Cursor;
 use crate::parse::fields::{fields, parts, variants, visibility};
 use crate::syntax::{Attributes, Definition, Shape, Source};
 use crate::token::{Token, TokenKind};
+use derive_source::Fault;
 use std::alloc::Global;
 
 /// What these tokens of a source of so many bytes declare.

@@ -1,9 +1,9 @@
 //! Types: paths with arguments, tuples and arrays, at any nesting.
 
-use crate::fault::Fault;
 use crate::parse::cursor::Cursor;
 use crate::syntax::Type;
 use crate::token::{Token, TokenKind};
+use derive_source::Fault;
 use std::alloc::Global;
 
 /// A bracket that has been opened.

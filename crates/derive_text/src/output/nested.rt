@@ -4,14 +4,14 @@
 use crate::output::nested_bodies::{known_arms, known_fields};
 use crate::output::nested_json::{append_json_choice, append_json_record};
 use crate::output::nested_json_fields::json_fields;
-use crate::output::nested_names::{nested_holes, put_codec, put_laws};
+use crate::output::nested_names::{cycle_line, nested_holes, put_codec, put_laws, reader_cycle};
 use crate::output::nested_ron::{append_ron_choice, append_ron_record};
 use crate::output::nested_rows::{NestedRow, append_choice_row, append_record_row};
 use crate::output::nested_writes::{write_arms, write_fields};
 use derive_impls::layout::{Brackets, Items, Piece, list};
 use derive_impls::sheet::Sheet;
 use derive_impls::target::Target;
-use derive_syntax::{Case, Definition, Fault, Field, Holes, Shape, Variant};
+use derive_syntax::{Case, Cycle, Definition, Fault, Field, Holes, Shape, Source, Variant};
 use std::alloc::{AllocError, Global};
 
 /// What differs between structs and enums.
@@ -36,13 +36,21 @@ const CHOICE: Kind = Kind {
     is_enum: true,
 };
 
-/// Appends the impls of a type that contains itself.
+/// Appends the impls of a type of a source that contains itself, by these types.
 pub(crate) fn append_nested<'a>(
     sheet: &mut Sheet,
     module: &'a str,
-    definition: &Definition<'a>,
+    (source, definition): (&Source<'a>, &Definition<'a>),
+    cycle: Cycle<'a>,
 ) -> Result<(), Fault> {
-    let target = Target::new(sheet, module, definition)?;
+    let mut target = Target::new(sheet, module, definition)?;
+    for other in &source.definitions {
+        if cycle.is_root(other.name) {
+            target.counted = other.attributes;
+        }
+    }
+    target.root = cycle.root;
+    target.cycle = cycle.names;
     match &definition.shape {
         Shape::Parts(_parts) => Ok(()),
         Shape::Fields(fields) => append_record(sheet, &target, fields),
@@ -56,17 +64,17 @@ fn append_record<'a>(
     target: &Target<'a>,
     fields: &[Field<'a>],
 ) -> Result<(), Fault> {
-    let (name, attributes) = (target.name, target.attributes);
+    let attributes = target.attributes;
     let row = append_record_row(sheet, target, fields)?;
     let known = known_fields(sheet, fields)?;
     let write = if attributes.bin.is_used() {
-        write_fields(sheet, name, fields)?
+        write_fields(sheet, target, fields)?
     } else {
         String::new(sheet.alloc)
     };
     append_impls(sheet, target, &RECORD, &row, (&known, &write))?;
     if attributes.json.is_used() {
-        let appended = json_fields(sheet, name, fields, (&row.leaves, "&value."))?;
+        let appended = json_fields(sheet, target, fields, (&row.leaves, "&value."))?;
         append_json_record(sheet, target, appended.as_str())?;
     }
     if attributes.ron.is_used() {
@@ -81,11 +89,11 @@ fn append_choice<'a>(
     target: &Target<'a>,
     variants: &[Variant<'a>],
 ) -> Result<(), Fault> {
-    let (name, attributes) = (target.name, target.attributes);
+    let attributes = target.attributes;
     let row = append_choice_row(sheet, target, variants)?;
     let known = known_arms(sheet, variants)?;
     let write = if attributes.bin.is_used() {
-        write_arms(sheet, name, variants)?
+        write_arms(sheet, target, variants)?
     } else {
         String::new(sheet.alloc)
     };
@@ -118,7 +126,7 @@ $CITED
 
     ghost legal = { $FIRST.encoding.legal };
 
-$LEGAL    fn known(&self) {
+$LEGAL$IN_KNOWN    fn known(&self) {
 $KNOWN    }
 }";
 
@@ -135,7 +143,7 @@ impl nano_bin_schema::BinCodec for $TYPE {
 
 impl nano_bin_nested::WritesBin for $TYPE {
     #[tactic(auto, using($LAWS_written_laws))]
-    fn write_bin(&self, alloc: std::alloc::Global, output: &mut Vec<u8>) \
+$IN_WRITE    fn write_bin(&self, alloc: std::alloc::Global, output: &mut Vec<u8>) \
         -> Result<(), std::alloc::AllocError> {
 $WRITE    }
 }
@@ -145,10 +153,11 @@ impl nano_bin_schema::SerBin for $TYPE {
         -> Result<(), std::alloc::AllocError> {
         nano_bin_nested::WritesBin::write_bin(self, alloc, output)
     }
-}
+}";
 
+const LEVELS: &str = "
 impl nano_bin_nested::ReadsBin<$TYPE> for nano_levels::Levels {
-    #[cycle(read)]
+    #[cycle($IN_READ)]
     fn read_bin(&self, alloc: std::alloc::Global, offset: &mut usize, bytes: &[u8]) \
         -> Result<$TYPE, nano_bin_schema::DeBinErr> {
         let nano_levels::Levels::More(below) = self else {
@@ -159,8 +168,19 @@ impl nano_bin_nested::ReadsBin<$TYPE> for nano_levels::Levels {
         };
         $CALL
     }
-}
+}";
 
+// It is no level of its own: as many may follow of the values of the root.
+const AROUND: &str = "
+impl nano_bin_nested::ReadsBin<$TYPE> for nano_levels::Levels {
+    #[cycle($IN_READ)]
+    fn read_bin(&self, alloc: std::alloc::Global, offset: &mut usize, bytes: &[u8]) \
+        -> Result<$TYPE, nano_bin_schema::DeBinErr> {
+        $CALL
+    }
+}";
+
+const READER: &str = "
 impl nano_bin_schema::DeBin for $TYPE {
     ghost is_decodable = { refl };
 
@@ -187,6 +207,7 @@ fn append_impls<'a>(
     holes.put("SCHEMA", sheet.short(kind.schema)?.as_str());
     holes.put("HELD", row.values.as_str());
     holes.put("MAKING", row.making.as_str());
+    holes.put("IN_KNOWN", cycle_line(alloc, target, "known", "")?.as_str());
     holes.put("KNOWN", known.as_str());
     sheet.write(SCHEMA, &holes)?;
     if target.attributes.bin.is_used() {
@@ -210,19 +231,26 @@ fn append_bytes<'a>(
     holes.put("CALL", reading(sheet, target, kind)?.as_str());
     holes.put("BIN", format!(in alloc; "{name}_codec")?.as_str());
     holes.put("LEVELS", levels_of(alloc, target)?.as_str());
+    holes.put("IN_READ", reader_cycle(alloc, target, "bin")?.as_str());
+    holes.put(
+        "IN_WRITE",
+        cycle_line(alloc, target, "write", "_bin")?.as_str(),
+    );
     holes.put("WRITE", write.as_str());
-    sheet.write(BYTES, &holes)
+    sheet.write(BYTES, &holes)?;
+    sheet.write(if target.is_around() { AROUND } else { LEVELS }, &holes)?;
+    sheet.write(READER, &holes)
 }
 
 /// The call that gives the levels that are read.
 pub(crate) fn levels_of<'a>(alloc: Global, target: &Target<'a>) -> Result<String, AllocError> {
-    match target.attributes.levels {
-        Some(_limit) => format!(in alloc; "at_most({})", target.attributes.level_limit()),
+    match target.counted.levels {
+        Some(_limit) => format!(in alloc; "at_most({})", target.counted.level_limit()),
         None => String::from_str(alloc, "most()"),
     }
 }
 
-/// The call that reads a value one level below.
+/// The call that reads a value: one level below, or of as many levels if it is none of its own.
 fn reading<'a>(sheet: &mut Sheet, target: &Target<'a>, kind: &Kind) -> Result<String, AllocError> {
     let alloc = sheet.alloc;
     let open = format!(in alloc;
@@ -231,7 +259,8 @@ fn reading<'a>(sheet: &mut Sheet, target: &Target<'a>, kind: &Kind) -> Result<St
     )?;
     let open = sheet.short(open.as_str())?;
     let mut arguments = Vec::new(alloc);
-    for argument in ["below", "alloc", "offset", "bytes"] {
+    let levels = if target.is_around() { "self" } else { "below" };
+    for argument in [levels, "alloc", "offset", "bytes"] {
         arguments.push(Piece::of(alloc, argument)?)?;
     }
     let brackets = Brackets {

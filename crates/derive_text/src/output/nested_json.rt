@@ -3,11 +3,12 @@
 
 use crate::output::nested_json_contents::append_contents;
 use crate::output::nested_json_variants::{arms, json_variants};
+use crate::output::nested_names::writer_cycle;
 use crate::output::nested_rows::NestedRow;
 use crate::output::nested_text::{JSON, reading, text_holes};
 use derive_impls::sheet::Sheet;
 use derive_impls::target::Target;
-use derive_syntax::{Case, Variant};
+use derive_syntax::Variant;
 use std::alloc::{AllocError, Global};
 
 pub(crate) const CODEC: &str = "
@@ -77,16 +78,17 @@ impl nano_json_nested::WritesJson for $TYPE {
     }
 }";
 
-pub(crate) const READER: &str = "
+pub(crate) const WRITER: &str = "
 impl nano_json_schema::SerJson for $TYPE {
     fn ser_json(&self, alloc: std::alloc::Global, d: usize, \
         s: &mut nano_json_schema::SerJsonState) -> Result<(), std::alloc::AllocError> {
         nano_json_nested::WritesJson::write_json(self, alloc, d, s)
     }
-}
+}";
 
+pub(crate) const LEVELS: &str = "
 impl nano_json_nested::ReadsJson<$TYPE> for nano_levels::Levels {
-    #[cycle(read)]
+    #[cycle($IN_READ)]
     fn read_json(&self, left: usize, alloc: std::alloc::Global, \
         state: &mut nano_json_schema::DeJsonState, input: &mut std::str::Chars<'_>) \
         -> Result<$TYPE, nano_json_schema::DeJsonErr> {
@@ -104,8 +106,23 @@ impl nano_json_nested::ReadsJson<$TYPE> for nano_levels::Levels {
             Err(error) => Err(error),
         }
     }
-}
+}";
 
+// It is no level of its own: as many may follow of the values of the root.
+pub(crate) const AROUND: &str = "
+impl nano_json_nested::ReadsJson<$TYPE> for nano_levels::Levels {
+    #[cycle($IN_READ)]
+    fn read_json(&self, left: usize, alloc: std::alloc::Global, \
+        state: &mut nano_json_schema::DeJsonState, input: &mut std::str::Chars<'_>) \
+        -> Result<$TYPE, nano_json_schema::DeJsonErr> {
+        match $CALL {
+            Ok(values) => Ok($TYPE::make(values)),
+            Err(error) => Err(error),
+        }
+    }
+}";
+
+pub(crate) const READER: &str = "
 impl nano_json_schema::DeJson for $TYPE {
     fn de_json(alloc: std::alloc::Global, state: &mut nano_json_schema::DeJsonState, \
         input: &mut std::str::Chars<'_>) -> Result<Self, nano_json_schema::DeJsonErr> {
@@ -113,6 +130,16 @@ impl nano_json_schema::DeJson for $TYPE {
         nano_json_nested::ReadsJson::<Self>::read_json(levels, $LIMIT, alloc, state, input)
     }
 }";
+
+/// The templates of what writes and reads a type: as a level, or around the one whose levels are
+/// counted.
+pub(crate) fn reader_of<'a>(target: &Target<'a>) -> [&'static str; 3] {
+    if target.is_around() {
+        [WRITER, AROUND, READER]
+    } else {
+        [WRITER, LEVELS, READER]
+    }
+}
 
 /// Appends the impls of JSON of an enum, whose variants stand so in their row.
 pub(crate) fn append_json_choice<'a>(
@@ -125,17 +152,32 @@ pub(crate) fn append_json_choice<'a>(
     let mut holes = text_holes(sheet, target, JSON)?;
     sheet.write(CODEC, &holes)?;
     let full = json_variants(sheet, target, variants, &row.leaves)?;
-    let call = reading(sheet, JSON, (full.as_str(), "choice"))?;
+    let call = reading(sheet, JSON, target, (full.as_str(), "choice"))?;
     holes.put("CALL", call.as_str());
-    let around = if append_contents(sheet, target, variants, &row.contents)? {
-        format!(in alloc; "    #[cycle({})]\n", cycle_of(alloc, target)?)?
-    } else {
-        String::new(alloc)
-    };
-    holes.put("AROUND", around.as_str());
+    let has_writer = append_contents(sheet, target, variants, &row.contents)?;
+    holes.put(
+        "AROUND",
+        choice_cycle(alloc, target, (JSON.name, has_writer))?.as_str(),
+    );
     holes.put("ARMS", arms(sheet, target, variants, JSON)?.as_str());
     sheet.write(CHOICE, &holes)?;
-    sheet.write(READER, &holes)
+    for template in reader_of(target) {
+        sheet.write(template, &holes)?;
+    }
+    Ok(())
+}
+
+/// The line that says which functions call each other that write an enum in a format, if it has
+/// a writer of its own for variants, or is one of several types.
+pub(crate) fn choice_cycle<'a>(
+    alloc: Global,
+    target: &Target<'a>,
+    (format, has_writer): (&str, bool),
+) -> Result<String, AllocError> {
+    if !has_writer && !target.is_one_of_several() {
+        return Ok(String::new(alloc));
+    }
+    format!(in alloc; "    #[cycle({})]\n", writer_cycle(alloc, target, format)?)
 }
 
 /// Appends the impls of JSON of a struct, given what writes its fields.
@@ -147,13 +189,16 @@ pub(crate) fn append_json_record<'a>(
     import_outcomes(sheet)?;
     let alloc = sheet.alloc;
     let mut holes = text_holes(sheet, target, JSON)?;
-    let call = reading(sheet, JSON, (target.row.as_str(), "record"))?;
+    let call = reading(sheet, JSON, target, (target.row.as_str(), "record"))?;
     holes.put("CALL", call.as_str());
-    holes.put("CYCLE", cycle_of(alloc, target)?.as_str());
+    holes.put("CYCLE", writer_cycle(alloc, target, JSON.name)?.as_str());
     holes.put("FIELDS", fields);
     sheet.write(CODEC, &holes)?;
     sheet.write(RECORD, &holes)?;
-    sheet.write(READER, &holes)
+    for template in reader_of(target) {
+        sheet.write(template, &holes)?;
+    }
+    Ok(())
 }
 
 /// Brings in what is said of calls that append.
@@ -162,10 +207,4 @@ pub(crate) fn import_outcomes(sheet: &mut Sheet) -> Result<(), AllocError> {
     sheet.import("ghost use Rattle.std.specs.Prelude.{OnErr};")?;
     sheet.import("ghost use Rattle.nano_text.specs.Outcomes.{Appends};")?;
     sheet.import("ghost use Rattle.nano_text.specs.Outcomes.{AppendsPart};")
-}
-
-/// The name of the functions that write a type, as far as these call each other.
-pub(crate) fn cycle_of<'a>(alloc: Global, target: &Target<'a>) -> Result<String, AllocError> {
-    let name = Case::Snake.of_variant(alloc, target.name.text)?;
-    format!(in alloc; "write_{name}_json")
 }

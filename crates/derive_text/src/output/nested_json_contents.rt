@@ -1,8 +1,8 @@
 //! The variants with named fields of enums that contain themselves, in JSON: what writes each.
 
-use crate::output::nested_json::{cycle_of, import_outcomes};
+use crate::output::nested_json::import_outcomes;
 use crate::output::nested_json_fields::json_fields;
-use crate::output::nested_names::{put_variant, specs_of};
+use crate::output::nested_names::{put_variant, specs_of, writer_cycle};
 use crate::output::nested_text::{JSON, TextNames, writer_of};
 use derive_impls::layout::Items;
 use derive_impls::rows::{Leaf, paired};
@@ -120,7 +120,7 @@ fn append_content<'a>(
     let of = Case::Snake.of_variant(alloc, target.name.text)?;
     let end = Case::Snake.of_variant(alloc, variant.name.text)?;
     let content = format!(in alloc; "{of}_json_content_{end}")?;
-    let lines = json_fields(sheet, target.name, fields, (leaves, "v"))?;
+    let lines = json_fields(sheet, target, fields, (leaves, "v"))?;
     holes.put("TEXTS", specs_of(alloc, target.module, "Json")?.as_str());
     holes.put("FIELDS", lines.as_str());
     holes.put("JSON", format!(in alloc; "{of}_json")?.as_str());
@@ -144,7 +144,7 @@ fn append_content<'a>(
         head(sheet, target, outer.as_str(), fields)?.as_str(),
     );
     holes.put("OF", end.as_str());
-    holes.put("CYCLE", cycle_of(alloc, target)?.as_str());
+    holes.put("CYCLE", writer_cycle(alloc, target, JSON.name)?.as_str());
     sheet.write(CONTENT, &holes)
 }
 

@@ -3,15 +3,16 @@
 use derive_impls::layout::{Brackets, Items, Piece, list};
 use derive_impls::rows::Leaf;
 use derive_impls::sheet::Sheet;
+use derive_impls::target::Target;
 use derive_impls::types::optional_part;
-use derive_syntax::{Field, Token, field_name};
+use derive_syntax::{Field, field_name};
 use std::alloc::AllocError;
 
-/// The steps that append the fields of the type of this name, which stand so in their row, and whose
-/// values begin so: with what comes before a field's name, or before its number if that is `v`.
+/// The steps that append the fields of a type, which stand so in their row, and whose values begin
+/// so: with what comes before a field's name, or before its number if that is `v`.
 pub(crate) fn json_fields<'a>(
     sheet: &mut Sheet,
-    name: Token<'a>,
+    target: &Target<'a>,
     fields: &[Field<'a>],
     (leaves, before): (&[Leaf], &str),
 ) -> Result<String, AllocError> {
@@ -28,9 +29,10 @@ pub(crate) fn json_fields<'a>(
         };
         let first = first_of(sheet, field, i)?;
         let around = (bound.as_str(), value.as_str(), first.as_str());
-        let step = match field.of.parameter_of(&[name]) {
-            Some(_itself) => within(sheet, field, around)?,
-            None => other(sheet, field, leaf, around)?,
+        let step = if target.is_within(field.of) {
+            within(sheet, field, around)?
+        } else {
+            other(sheet, field, leaf, around)?
         };
         text.push_str(format!(in sheet.alloc; "        {step}\n")?.as_str())?;
     }

@@ -133,7 +133,7 @@ fn parts_arm<'a>(
     let parts = parts_of(alloc, &variant.content)?;
     let mut lines = Vec::new(alloc);
     for part in &parts {
-        if parts.len() > 1 && part.of.parameter_of(&[target.name]).is_none() {
+        if parts.len() > 1 && !target.is_within(part.of) {
             let (name, end) = (part.name.as_str(), format.name);
             let line = format!(in alloc;
                 "let {name} = &nano_{end}_schema::Part {{ of: {name} }};"
@@ -188,9 +188,10 @@ fn write_part<'a>(
 ) -> Result<String, AllocError> {
     let alloc = sheet.alloc;
     let key = variant_name(alloc, variant, None)?;
-    let end = match part.of.parameter_of(&[target.name]) {
-        Some(_itself) => "within",
-        None => "other",
+    let end = if target.is_within(part.of) {
+        "within"
+    } else {
+        "other"
     };
     let call = format!(in alloc;
         "nano_{}_nested::write_variant_{end}(alloc, \"{key}\", {}, d, s)",

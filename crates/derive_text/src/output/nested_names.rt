@@ -112,6 +112,45 @@ pub(crate) fn put_variant<'a>(
     Ok(())
 }
 
+/// The line that says which functions of types that contain each other call each other: those whose
+/// names begin and end so, around the name of the root. A type alone has none.
+pub(crate) fn cycle_line<'a>(
+    alloc: Global,
+    target: &Target<'a>,
+    verb: &str,
+    end: &str,
+) -> Result<String, AllocError> {
+    if !target.is_one_of_several() {
+        return Ok(String::new(alloc));
+    }
+    let root = Case::Snake.of_variant(alloc, target.root.text)?;
+    format!(in alloc; "    #[cycle({verb}_{root}{end})]\n")
+}
+
+/// The name of the functions that read a type in a format, as far as these call each other.
+pub(crate) fn reader_cycle<'a>(
+    alloc: Global,
+    target: &Target<'a>,
+    format: &str,
+) -> Result<String, AllocError> {
+    if !target.is_one_of_several() {
+        return String::from_str(alloc, "read");
+    }
+    let root = Case::Snake.of_variant(alloc, target.root.text)?;
+    format!(in alloc; "read_{root}_{format}")
+}
+
+/// The name of the functions that write a type in a format of texts, as far as these call each
+/// other.
+pub(crate) fn writer_cycle<'a>(
+    alloc: Global,
+    target: &Target<'a>,
+    format: &str,
+) -> Result<String, AllocError> {
+    let root = Case::Snake.of_variant(alloc, target.root.text)?;
+    format!(in alloc; "write_{root}_{format}")
+}
+
 /// The module of the definitions of the types of a module, or of those of a format of texts.
 pub(crate) fn specs_of(alloc: Global, module: &str, format: &str) -> Result<String, AllocError> {
     let (library, _path) = crate_of(module);

@@ -2,7 +2,7 @@
 
 use crate::output::nested_json::import_outcomes;
 use crate::output::nested_json_contents::append_writer;
-use crate::output::nested_names::{put_variant, specs_of};
+use crate::output::nested_names::{put_variant, specs_of, writer_cycle};
 use crate::output::nested_ron_steps::field_steps;
 use crate::output::nested_text::{RON, writer_of};
 use derive_impls::sheet::Sheet;
@@ -86,7 +86,7 @@ fn append_content<'a>(
     holes.put("OWN", format!(in alloc; "{name}_ron_of_{end}")?.as_str());
     holes.put("TYPE", target.full.as_str());
     holes.put("CASE", variant.name.text);
-    holes.put("CYCLE", format!(in alloc; "write_{name}_ron")?.as_str());
+    holes.put("CYCLE", writer_cycle(alloc, target, RON.name)?.as_str());
     holes.put("WRITER", writer_of(alloc, target, RON)?.as_str());
     holes.put("END", end.as_str());
     holes.put("STEPS", steps.as_str());
@@ -125,7 +125,7 @@ fn steps_of<'a>(
     let called = variant_name(alloc, variant, None)?;
     let call = format!(in alloc; "nano_ron_schema::write_unit_variant(\"{called}\", s)")?;
     let call = sheet.short(call.as_str())?;
-    let steps = field_steps(sheet, target.name, fields, false)?;
+    let steps = field_steps(sheet, target, fields, false)?;
     format!(in alloc;
         "        {call}?;
         s.st_pre()?;

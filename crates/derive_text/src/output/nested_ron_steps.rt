@@ -2,15 +2,15 @@
 
 use derive_impls::layout::{Brackets, Items, Piece, list};
 use derive_impls::sheet::Sheet;
+use derive_impls::target::Target;
 use derive_impls::types::optional_part;
-use derive_syntax::{Field, Token, field_name};
+use derive_syntax::{Field, field_name};
 use std::alloc::AllocError;
 
-/// The steps that append the fields of a value of the type of this name, or the arguments that are
-/// its fields.
+/// The steps that append the fields of a value of a type, or the arguments that are its fields.
 pub(crate) fn field_steps<'a>(
     sheet: &mut Sheet,
-    name: Token<'a>,
+    target: &Target<'a>,
     fields: &[Field<'a>],
     of_value: bool,
 ) -> Result<String, AllocError> {
@@ -21,9 +21,10 @@ pub(crate) fn field_steps<'a>(
             Some(_part) => "optional",
             None => "required",
         };
-        let end = match field.of.parameter_of(&[name]) {
-            Some(_itself) => "_within",
-            None => "",
+        let end = if target.is_within(field.of) {
+            "_within"
+        } else {
+            ""
         };
         let open = format!(in alloc; "nano_ron_nested::append_{kind}{end}(")?;
         let key = format!(in alloc; "\"{}\"", field_name(alloc, *field, None)?)?;

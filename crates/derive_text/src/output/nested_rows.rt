@@ -13,7 +13,7 @@ use derive_impls::sheet::Sheet;
 use derive_impls::target::Target;
 use derive_impls::tuples::part_types;
 use derive_impls::types::{optional_part, type_text};
-use derive_syntax::{Content, Field, Token, Type, Variant, field_name, variant_name};
+use derive_syntax::{Content, Field, Type, Variant, field_name, variant_name};
 use std::alloc::{AllocError, Global};
 
 /// What a type that contains itself is made of.
@@ -57,13 +57,13 @@ fn field_leaves<'a>(
         names.push(field_name(sheet.alloc, *field, None)?)?;
     }
     let labels = append_labels(sheet, owner, &names)?;
-    labelled(sheet, target.name, fields, labels)
+    labelled(sheet, target, fields, labels)
 }
 
 /// Fields with these labels as they stand in a row.
 fn labelled<'a>(
     sheet: &mut Sheet,
-    name: Token<'a>,
+    target: &Target<'a>,
     fields: &[Field<'a>],
     labels: Vec<String>,
 ) -> Result<Vec<Leaf>, AllocError> {
@@ -76,22 +76,23 @@ fn labelled<'a>(
         let mut texts = Vec::new(sheet.alloc);
         texts.push(label)?;
         texts.push(type_text(sheet.alloc, part)?)?;
-        leaves.push(leaf(sheet, name, (kind, field.of), texts)?)?;
+        leaves.push(leaf(sheet, target, (kind, field.of), texts)?)?;
     }
     Ok(leaves)
 }
 
 /// A field or a part of this kind and type, whose arguments are these texts, as it stands in a row
-/// of the type of this name.
+/// of a type.
 fn leaf<'a>(
     sheet: &mut Sheet,
-    name: Token<'a>,
+    target: &Target<'a>,
     (kind, of): (&str, Type<'a>),
     texts: Vec<String>,
 ) -> Result<Leaf, AllocError> {
-    let around = match of.parameter_of(&[name]) {
-        Some(_itself) => "nano_levels::Within<",
-        None => "nano_levels::Other<",
+    let around = if target.is_within(of) {
+        "nano_levels::Within<"
+    } else {
+        "nano_levels::Other<"
     };
     let open = format!(in sheet.alloc; "{around}{kind}")?;
     Ok(Leaf {
@@ -102,17 +103,17 @@ fn leaf<'a>(
     })
 }
 
-/// Parts without names as they stand in a row of the type of this name.
+/// Parts without names as they stand in a row of a type.
 fn part_leaves<'a>(
     sheet: &mut Sheet,
-    name: Token<'a>,
+    target: &Target<'a>,
     parts: &[Type<'a>],
 ) -> Result<Vec<Leaf>, AllocError> {
     let mut leaves = Vec::new(sheet.alloc);
     for part in parts {
         let mut texts = Vec::new(sheet.alloc);
         texts.push(type_text(sheet.alloc, *part)?)?;
-        leaves.push(leaf(sheet, name, ("nano_schema::Newtype<", *part), texts)?)?;
+        leaves.push(leaf(sheet, target, ("nano_schema::Newtype<", *part), texts)?)?;
     }
     Ok(leaves)
 }
@@ -153,7 +154,7 @@ fn content_leaves<'a>(
 ) -> Result<Vec<Leaf>, AllocError> {
     match &variant.content {
         Content::Nothing => Ok(Vec::new(sheet.alloc)),
-        Content::Parts(parts) => part_leaves(sheet, target.name, parts),
+        Content::Parts(parts) => part_leaves(sheet, target, parts),
         Content::Fields(fields) => {
             let owner = owner_of(sheet.alloc, target, variant)?;
             field_leaves(sheet, target, owner.as_str(), fields)

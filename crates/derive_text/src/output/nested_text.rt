@@ -1,7 +1,7 @@
 //! What types that contain themselves have in each format of texts: what stands in the templates of
 //! the format, and the call that reads a value.
 
-use crate::output::nested_names::{laws_of, nested_holes, specs_of};
+use crate::output::nested_names::{laws_of, nested_holes, reader_cycle, specs_of};
 use derive_impls::layout::{Brackets, Items, Piece, list};
 use derive_impls::sheet::Sheet;
 use derive_impls::target::Target;
@@ -89,7 +89,8 @@ pub(crate) fn text_holes<'a>(
     holes.put("OWN", codec.as_str());
     holes.put("WRITER", writer_of(alloc, target, format)?.as_str());
     holes.put("AT", format!(in alloc; "{name}_{end}_at")?.as_str());
-    holes.put("LIMIT", target.attributes.level_limit());
+    holes.put("IN_READ", reader_cycle(alloc, target, end)?.as_str());
+    holes.put("LIMIT", target.counted.level_limit());
     holes.put("DEEP", too_deep(sheet, target, end)?.as_str());
     Ok(holes)
 }
@@ -106,20 +107,22 @@ pub(crate) fn writer_of<'a>(
 /// The call that reports more levels than are read, in the format of this name.
 fn too_deep<'a>(sheet: &mut Sheet, target: &Target<'a>, end: &str) -> Result<String, AllocError> {
     let alloc = sheet.alloc;
-    let call = match target.attributes.levels {
+    let call = match target.counted.levels {
         Some(_limit) => format!(in alloc;
             "nano_{end}_nested::too_many_levels(alloc, {}, state)",
-            target.attributes.level_limit()
+            target.counted.level_limit()
         )?,
         None => format!(in alloc; "nano_{end}_nested::too_deep(alloc, state)")?,
     };
     sheet.short(call.as_str())
 }
 
-/// The call that reads what a value is seen as by this row, of structs or of enums, one level below.
-pub(crate) fn reading(
+/// The call that reads what a value is seen as by this row, of structs or of enums: one level below,
+/// or of as many levels if the type is none of its own.
+pub(crate) fn reading<'a>(
     sheet: &mut Sheet,
     format: TextNames,
+    target: &Target<'a>,
     (row, of): (&str, &str),
 ) -> Result<String, AllocError> {
     let (alloc, end) = (sheet.alloc, format.name);
@@ -127,7 +130,12 @@ pub(crate) fn reading(
     let open = format!(in alloc; "{read}::<nano_levels::Levels, {row}>(")?;
     let open = sheet.short(open.as_str())?;
     let mut arguments = Vec::new(alloc);
-    for argument in ["below", "left - 1", "alloc", "state", "input"] {
+    let (levels, left) = if target.is_around() {
+        ("self", "left")
+    } else {
+        ("below", "left - 1")
+    };
+    for argument in [levels, left, "alloc", "state", "input"] {
         arguments.push(Piece::of(alloc, argument)?)?;
     }
     let brackets = Brackets {

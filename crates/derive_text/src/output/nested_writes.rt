@@ -2,22 +2,23 @@
 
 use crate::output::nested_bodies::{arm, borrowed, indented, parts_of};
 use derive_impls::sheet::Sheet;
-use derive_syntax::{Content, Field, Token, Variant};
+use derive_impls::target::Target;
+use derive_syntax::{Content, Field, Variant};
 use std::alloc::{AllocError, Global};
 
 const START: &str = "        let start = output.len();\n";
 
-/// The body that writes a struct of this name, field by field.
+/// The body that writes a struct, field by field.
 pub(crate) fn write_fields<'a>(
     sheet: &mut Sheet,
-    name: Token<'a>,
+    target: &Target<'a>,
     fields: &[Field<'a>],
 ) -> Result<String, AllocError> {
     let alloc = sheet.alloc;
     let parts = borrowed(alloc, fields)?;
     let mut lines = Vec::new(alloc);
     for (i, part) in parts.iter().enumerate() {
-        let is_within = part.of.parameter_of(&[name]).is_some();
+        let is_within = target.is_within(part.of);
         let call = match (i, is_within) {
             (0, true) => format!(in alloc;
                 "nano_bin_nested::WritesBin::write_bin({}, alloc, output)",
@@ -52,16 +53,16 @@ fn step(sheet: &mut Sheet, call: &str, is_last: bool) -> Result<String, AllocErr
     Ok(line)
 }
 
-/// The body that writes an enum of this name: the tag, and part by part what the variant holds.
+/// The body that writes an enum: the tag, and part by part what the variant holds.
 pub(crate) fn write_arms<'a>(
     sheet: &mut Sheet,
-    name: Token<'a>,
+    target: &Target<'a>,
     variants: &[Variant<'a>],
 ) -> Result<String, AllocError> {
     let mut arms = String::new(sheet.alloc);
     let mut start = "";
     for (tag, variant) in variants.iter().enumerate() {
-        let lines = write_lines(sheet, name, tag, &variant.content)?;
+        let lines = write_lines(sheet, target, tag, &variant.content)?;
         start = if lines.len() > 1 { START } else { start };
         arms.push_str(arm(sheet.alloc, variant, &lines, "")?.as_str())?;
     }
@@ -71,7 +72,7 @@ pub(crate) fn write_arms<'a>(
 /// What writes a tag, and what the variant holds.
 fn write_lines<'a>(
     sheet: &mut Sheet,
-    name: Token<'a>,
+    target: &Target<'a>,
     tag: usize,
     content: &Content<'a>,
 ) -> Result<Vec<String>, AllocError> {
@@ -83,7 +84,7 @@ fn write_lines<'a>(
         lines.push(step(sheet, call.as_str(), true)?)?;
     }
     for (i, part) in parts.iter().enumerate() {
-        let is_within = part.of.parameter_of(&[name]).is_some();
+        let is_within = target.is_within(part.of);
         let call = match i {
             0 => first_part(alloc, tag, part.name.as_str(), is_within)?,
             _ => later_part(alloc, part.name.as_str(), is_within)?,

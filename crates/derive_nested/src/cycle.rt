@@ -1,0 +1,88 @@
+//! The types that contain each other, or the one that contains itself, as ghost terms that speak of
+//! all of them.
+
+use crate::part::Names;
+use derive_syntax::{Case, Cycle, Holes};
+use std::alloc::{AllocError, Global};
+
+/// The types of a cycle.
+#[derive(Drop)]
+pub(crate) struct Members {
+    /// Their names, in the order of the file.
+    all: Vec<Names>,
+    /// That of the root.
+    pub(crate) root: Names,
+}
+
+/// The names of a type, by its name in the program.
+pub(crate) fn names_of(alloc: Global, name: &str) -> Result<Names, AllocError> {
+    Ok(Names {
+        of: String::from_str(alloc, name)?,
+        snake: Case::Snake.of_variant(alloc, name)?,
+    })
+}
+
+/// The types of a cycle.
+pub(crate) fn members_of(alloc: Global, cycle: &Cycle<'_>) -> Result<Members, AllocError> {
+    let mut all = Vec::new(alloc);
+    for name in &cycle.names {
+        all.push(names_of(alloc, name.text)?)?;
+    }
+    Ok(Members {
+        all,
+        root: names_of(alloc, cycle.root.text)?,
+    })
+}
+
+impl Members {
+    /// Whether they are several.
+    pub(crate) fn are_several(&self) -> bool {
+        self.all.len() > 1
+    }
+
+    /// The name of the first in the file: what is said of all of them stands in its module.
+    pub(crate) fn first(&self) -> &str {
+        match self.all.first() {
+            Some(names) => names.of.as_str(),
+            None => "",
+        }
+    }
+
+    /// A text for each, after a space but the first: one for the root, and one for each other, with
+    /// the holes `NAME` and `SNAKE` for its names.
+    fn each(&self, alloc: Global, root: &str, other: &str) -> Result<String, AllocError> {
+        let mut text = String::new(alloc);
+        for names in &self.all {
+            let is_root = names.of.as_str() == self.root.of.as_str();
+            let mut holes = Holes::new(alloc);
+            holes.put("NAME", names.of.as_str());
+            holes.put("SNAKE", names.snake.as_str());
+            text.push_str(if text.is_empty() { "" } else { " " })?;
+            let template = if is_root { root } else { other };
+            text.push_str(holes.fill(template)?.as_str())?;
+        }
+        Ok(text)
+    }
+
+    /// Puts what speaks of all of them into holes.
+    pub(crate) fn put(&self, alloc: Global, holes: &mut Holes) -> Result<(), AllocError> {
+        holes.put("ROOT", self.root.of.as_str());
+        holes.put("BASE", self.root.snake.as_str());
+        for (hole, root, other) in TERMS {
+            holes.put(*hole, self.each(alloc, *root, *other)?.as_str());
+        }
+        Ok(())
+    }
+}
+
+/// What speaks of all types: the hole, and a template for the root and for each other.
+const TERMS: &[(&str, &str, &str)] = &[
+    ("TYPES", "$NAME", "$NAME"),
+    ("FUNCTOR", "X", "$NAME"),
+    ("AS_MEANINGS", "Meaning", "Meaning"),
+    ("AS_DEPTHS", "ℕ", "ℕ"),
+    ("ALL_STEPS", "$SNAKE_means_step", "$SNAKE_means_step"),
+    ("ALL_DEPTHS", "$SNAKE_depth_step", "$SNAKE_depth_step"),
+    ("EACH_MEANS", "$SNAKE_means", "$SNAKE_means_folded"),
+    ("EACH_DEPTH", "$SNAKE_depth", "$SNAKE_depth_folded"),
+];

@@ -1,0 +1,3 @@
+mod Cases
+mod Places
+mod ShownLemmas

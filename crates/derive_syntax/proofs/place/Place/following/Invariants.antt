@@ -1,6 +1,0 @@
-use Rattle.std.proofs.Common.{◌≡◌}
-use Rattle.derive_syntax.specs.Place.{line_of, column_of}
-use Rattle.derive_syntax.proofs.place.Place.following.Given as goal
-
-abbrev pub invariant-loop-c : goal.invariant-loop-c
-invariant-loop-c l = (l.line ≡ line_of l.yielded) × (l.column ≡ column_of l.yielded)
