@@ -131,6 +131,8 @@ def by_python(text):
 
 
 def main():
+    if not os.path.exists(PROGRAM):
+        sys.exit("check_documents.py: crates/example_document/out/example_document is not there; rt ci builds it")
     faults, count = 0, 0
     for where, (words, data, status, output) in rows(DATA):
         words, data = words_of(words), unescape(data)

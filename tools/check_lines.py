@@ -52,6 +52,8 @@ def known(line, answers={}):
 
 
 def main():
+    if not os.path.exists(PROGRAM):
+        sys.exit("check_lines.py: crates/example_lines/out/example_lines is not there; rt ci builds it")
     faults, count = 0, 0
     for place, fields in rows(os.path.join(CRATE, "data", "lines.tsv")):
         stream, output = (unescape(field) for field in fields)
