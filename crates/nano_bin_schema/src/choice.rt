@@ -9,7 +9,7 @@ ghost use Rattle.nano_schema.specs.Views.{SeesAs};
 ghost use Rattle.nano_bin_schema.specs.Enums.{HasUnknownTag};
 
 use crate::choices::{BinChoiceRefs, BinChoices};
-use nano_bin::{DeBin, DeBinErr};
+use nano_bin::{BinCodec, DeBin, DeBinErr};
 use nano_schema::{EnumSchema, VariantRefs};
 use std::alloc::{AllocError, Global};
 
@@ -17,13 +17,16 @@ use std::alloc::{AllocError, Global};
 /// variant has is rejected with the kind `Own`, with the tag's place and length 0. Every error
 /// leaves `offset` unchanged; one other than out of memory says that no variant is encoded
 /// there.
-pub fn read_choice_bin<E: EnumSchema, V: BinChoices<Values = E::Values>>(
+pub fn read_choice_bin<E: EnumSchema + BinCodec, V: BinChoices<Values = E::Values>>(
     alloc: Global,
     offset: &mut usize,
     bytes: &[u8],
 ) -> Result<E, DeBinErr>
     ensures ok { IfOk result (λ value. Decodes (EncodesEnum V.chosen.bodies)
         bytes.now offset.old (V.chosen.means 0 (E.view value)) offset.new) }
+    ensures means { SeesAs (λ value. V.chosen.means 0 (E.view value)) E.bin.canonical.means
+        → IfOk result (λ value. Decodes (EncodesEnum V.chosen.bodies)
+        bytes.now offset.old (E.means value) offset.new) }
     ensures err { IfErr result
         (ReadsNone (EncodesEnum V.chosen.bodies) bytes.now offset.old offset.new) }
     ensures own { HasUnknownTag V.chosen.bodies bytes.now offset.old

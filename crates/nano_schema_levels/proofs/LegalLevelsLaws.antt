@@ -26,31 +26,6 @@ module _ {T : Type 0} {c : Cutting T} {g : Grammar T} {A : Type 0} (l : Nested c
       is_legal = λ m h. (h.0, subst (λ P. P m) (level_is_legal h.0) h.1);
     }
 
-  -- the layer calls legal what the step does, wherever that is so of the values inside
-  module _ (allows : (P : Meaning → Type 0) (f : Codec c g A)
-      → ((m : Meaning) → P m → f.encoding.legal m)
-      → (m : Meaning) → step P m → (l.layer.codec f).encoding.legal m)
-      (is_legal : (P : Meaning → Type 0) (f : Codec c g A)
-      → ((m : Meaning) → f.encoding.legal m → P m)
-      → (m : Meaning) → (l.layer.codec f).encoding.legal m → step P m) where
-    pub level_allows : (n : ℕ) (m : Meaning) → legal_level step n m → (level l n).encoding.legal m
-    unfolding level
-    level_allows zero m h = h
-    level_allows (suc n) m h = allows (legal_level step n) (level l n) (level_allows n) m h
-
-    pub level_legal : (n : ℕ) (m : Meaning) → (level l n).encoding.legal m → legal_level step n m
-    unfolding level
-    level_legal zero m h = h
-    level_legal (suc n) m h = is_legal (legal_level step n) (level l n) (level_legal n) m h
-
-    pub nested_agrees_inside : (limit : ℕ)
-        → Agrees l.means (LegalNested step) l.means (limited l limit).encoding.legal
-    nested_agrees_inside limit = record {
-      means_is = refl;
-      allows = λ m h. (h.0, level_allows h.0 m h.1);
-      is_legal = λ m h. (h.0, level_legal h.0 m h.1);
-    }
-
 -- two formats that each call legal what is legal call the same legal
 pub agree_through : {A : Type 0} {means : A → Meaning} {legal allowed other : Meaning → Type 0}
     → Agrees means legal means allowed → Agrees means legal means other

@@ -8,6 +8,8 @@ mod alias_tests;
 #[cfg(test)]
 mod default_tests;
 #[cfg(test)]
+mod guess_tests;
+#[cfg(test)]
 mod law_tests;
 #[cfg(test)]
 mod part_tests;

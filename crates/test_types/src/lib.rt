@@ -3,11 +3,11 @@
 //!
 //! `Server`, `Event`, `Signal` and `Query` are described once by a schema, and `derive_files` wrote
 //! each format from it. So are `Site`, `Clock`, `Notice`, `Moved`, `Change` and `Proxy`, which have
-//! attributes, `Tagged` and `Reply`, which have type parameters, `Ranked`, `Wanted`, `Ranks` and
-//! `Best`, whose parameters have bounds, `Point` and `Entry`, whose parts have no names, `Marker`,
-//! `Empty` and `Count`, of which nothing is read or written, with `Step` and `Trip`, which hold
-//! such, and `UserId`, `HallName`, `Role` and `Seat`, which are keys of the maps and items of the
-//! set of `Hall`.
+//! attributes, `Tagged`, `Reply` and `Guess`, which have type parameters, `Ranked`, `Wanted`,
+//! `Ranks` and `Best`, whose parameters have bounds, `Point` and `Entry`, whose parts have no
+//! names, `Marker`, `Empty` and `Count`, of which nothing is read or written, with `Step` and
+//! `Trip`, which hold such, and `UserId`, `HallName`, `Role` and `Seat`, which are keys of the maps
+//! and items of the set of `Hall`.
 //! `Limits` and `Tags` are encoded as their one field. `Command` implements bytes and `Message`
 //! implements JSON by hand, without a schema.
 #![tactic(auto)]
@@ -17,6 +17,7 @@ mod command;
 mod empty;
 mod entry;
 mod event;
+mod guess;
 mod hall;
 mod keys;
 mod limits;
@@ -40,6 +41,7 @@ pub use command::Command;
 pub use empty::{Count, Empty, Marker, Step, Trip};
 pub use entry::Entry;
 pub use event::Event;
+pub use guess::Guess;
 pub use hall::{Greetings, Hall, Seats, Visits};
 pub use keys::{HallName, Role, Seat, UserId};
 pub use limits::Limits;

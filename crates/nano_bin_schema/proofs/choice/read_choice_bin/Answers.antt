@@ -35,6 +35,16 @@ returns-clause-ok g c =
     let means = r.meant 0 ∙ ap (λ n. tagged n r.content) e in
     rw c.make.ensures (subst (λ m. Decodes (EncodesEnum vs) c.args.bytes.now c.args.offset.now m c.read.new.offset) (sym means) (variant_reads vs c.args.bytes.now c.args.offset.now _ c.read.new.offset tag r.content c.in_ok-tag.ensures.ok r.reads))
 
+pub returns-clause-means : goal.returns-clause-means
+returns-clause-means g c seen =
+    let vs = g.V.BinChoices.chosen.bodies in
+    let r = c.in_ok-values.ensures.ok in
+    let tag = c.in_ok-tag.tag in
+    let e : tag + 0 ≡ tag = omega arith in
+    let means = r.meant 0 ∙ ap (λ n. tagged n r.content) e in
+    rw (sym g.met.E.BinCodec.agrees.means_is, sym (seen c.make.result), c.make.ensures)
+    (subst (λ m. Decodes (EncodesEnum vs) c.args.bytes.now c.args.offset.now m c.read.new.offset) (sym means) (variant_reads vs c.args.bytes.now c.args.offset.now _ c.read.new.offset tag r.content c.in_ok-tag.ensures.ok r.reads))
+
 pub returns-in_err-tag-clause-own : goal.returns-in_err-tag-clause-own
 returns-in_err-tag-clause-own g c = λ h.
     let start = c.args.offset.now in
