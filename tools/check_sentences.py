@@ -22,9 +22,10 @@ PLANNED = {
     "docs/FORMATS.md": None,
     "docs/GUARANTEES.md": 228,
     "docs/GUIDE.md": 340,
+    "docs/NESTED_TYPES.md": 100,
     "docs/SECURITY.md": 72,
     "docs/SPEED.md": None,
-    "docs/USER_TYPES.md": 286,
+    "docs/USER_TYPES.md": 230,
 }
 
 

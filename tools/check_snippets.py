@@ -2,7 +2,7 @@
 """Compares the snippets of documents, and the examples of doc comments, with the sources and the
 stored output.
 
-    ```rust    stands in one file of crates/example_*/src, or of tools/walk
+    ```rust    stands in one file of crates/example_*/src or test_nested_defaults, or of tools/walk
     ```antt    stands in one file of crates/example_*/specs
     ```toml    stands in the stored input of a program, crates/*/stdin
     ```json    stands in tools/walk/stdin
@@ -24,10 +24,10 @@ import pathlib
 import re
 import sys
 
-DOCUMENTS = ["README.md", "docs/GUIDE.md", "docs/USER_TYPES.md"]
+DOCUMENTS = ["README.md", "docs/GUIDE.md", "docs/USER_TYPES.md", "docs/NESTED_TYPES.md"]
 CUTS = {"// ..", "-- .."}
 SOURCES = {
-    "rust": ["crates/example_*/src/*.rt", "tools/walk/*.rt.txt"],
+    "rust": ["crates/example_*/src/*.rt", "crates/test_nested_defaults/src/*.rt", "tools/walk/*.rt.txt"],
     "antt": ["crates/example_*/specs/*.antt"],
     "toml": ["crates/*/stdin"],
     "json": ["tools/walk/stdin"],
@@ -116,7 +116,7 @@ def stands(runs, lines):
     return True
 
 
-def answers(path):
+def answers(path, language):
     """The texts that a file holds: a table's answers, a test's strings, or the file itself."""
     text = path.read_bytes().decode("utf-8", "replace")
     if path.suffix == ".tsv":
@@ -125,7 +125,7 @@ def answers(path):
             if len(row) > 4:
                 answer = re.sub("%([0-9A-F]{2})", lambda m: chr(int(m.group(1), 16)), row[4])
                 yield re.sub(r"^\d: ", "", answer) if row[0] == "run" else answer
-    elif path.suffix == ".rt" and "/test_" in str(path):
+    elif path.suffix == ".rt" and language == "text":
         for string in STRING.findall(text):
             yield re.sub(r"\\(.)", lambda m: ESCAPES.get(m.group(1), m.group(1)), string)
     else:
@@ -138,7 +138,7 @@ def place_of(language, lines):
     for pattern in SOURCES[language]:
         for path in sorted(pathlib.Path(".").glob(pattern)):
             whole = path.suffix == ".tsv"
-            for text in answers(path):
+            for text in answers(path, language):
                 found = text.splitlines()
                 if whole and runs == [trim(without_indent(found))] or not whole and stands(runs, found):
                     return path

@@ -38,6 +38,7 @@ GENERIC = [
 ]
 # What a type that contains itself is made of, where `$` is the type.
 PLAIN = ["u8", "i64", "bool", "String", "()", "Mode", "Place", "Here"]
+GIVEN = {"u8": "7", "i64": "-5", "bool": "true", "String": "some text"}
 AROUND = ["{}", "Vec<{}>", "Option<{}>", "Box<{}>", "Vec<Option<{}>>"]
 ITSELF = ["Vec<$>", "Box<$>", "Option<Box<$>>", "Option<Vec<$>>", "Vec<Box<$>>", "Vec<Vec<$>>"]
 TRAITS = ["Clone", "PartialEq<u8>", "'static", "super::c::T", "self::super::c::U<Vec<u8>>"]
@@ -100,8 +101,12 @@ def drawn_nested_fields(draw, name, names, in_line):
     """Named fields of a type of this name, of which some hold the type itself."""
     lines = []
     for field, type in zip(names, drawn_parts(draw, name, names)):
-        if draw.random() < 0.25:
-            lines.append(f'    // nanoserde: rename = "{draw.choice("xyz")}_{field}"')
+        attributes = [f'rename = "{draw.choice("xyz")}_{field}"'] * (draw.random() < 0.25)
+        if type in GIVEN and draw.random() < 0.3:
+            attributes.append(f'default = "{GIVEN[type]}"')
+        elif (type in GIVEN or type[:4] in ("()", "Vec<")) and draw.random() < 0.3:
+            attributes.append("default")
+        lines += [f"    // nanoserde: {', '.join(attributes)}"] * bool(attributes)
         lines.append(f"    {in_line}{field}: {type},")
     return lines
 

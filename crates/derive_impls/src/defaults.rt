@@ -53,7 +53,7 @@ const TEXT: Given = Given {
 
 /// The name of what stands for the default of a field, and of its type where there is nothing
 /// else. A value that is given is appended as a type, which is called as the field is.
-pub(crate) fn append_default<'a>(
+pub fn append_default<'a>(
     sheet: &mut Sheet,
     target: &Target<'a>,
     owner: &str,

@@ -8,7 +8,7 @@ pub mod chains;
 mod choices;
 mod codec;
 mod codecs;
-mod defaults;
+pub mod defaults;
 pub mod fields;
 mod flat;
 mod forms;

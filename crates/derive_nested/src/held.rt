@@ -1,6 +1,7 @@
 //! What a variant of a type that contains itself holds, or what such a struct has.
 
 use crate::cycle::names_of;
+use crate::missing::missing_of;
 use crate::row::{Leaf, Row, row_of};
 use crate::wrapped::part_of;
 use derive_syntax::{
@@ -36,8 +37,7 @@ pub(crate) fn struct_held<'a>(
     for (i, field) in fields.iter().enumerate() {
         let called_so = field.name.text;
         let value = format!(in alloc; "{value}.{called_so}")?;
-        let key = Some(field_name(alloc, *field, None)?);
-        leaves.push(leaf_of(alloc, cycle, field.of, (i, value, key))?)?;
+        leaves.push(leaf_of(alloc, cycle, field.of, (i, value), Some(*field))?)?;
         called.push(String::from_str(alloc, called_so)?)?;
     }
     held_of(
@@ -62,8 +62,8 @@ pub(crate) fn variant_held<'a>(
         } else {
             format!(in alloc; "v{i}")?
         };
-        let key = key_at(alloc, &variant.content, i)?;
-        leaves.push(leaf_of(alloc, cycle, *of, (i, value, key))?)?;
+        let field = field_at(&variant.content, i);
+        leaves.push(leaf_of(alloc, cycle, *of, (i, value), field)?)?;
     }
     let has_fields = matches!(variant.content, Content::Fields(_));
     let called = called_in(alloc, &variant.content)?;
@@ -72,14 +72,11 @@ pub(crate) fn variant_held<'a>(
     held_of(alloc, (own, key), has_fields, (called, leaves))
 }
 
-/// What the field of a variant at its place is called in texts, if it has a name.
-fn key_at(alloc: Global, content: &Content<'_>, i: usize) -> Result<Option<String>, AllocError> {
-    let Content::Fields(fields) = content else {
-        return Ok(None);
-    };
-    match fields.get(i) {
-        Some(field) => Ok(Some(field_name(alloc, *field, None)?)),
-        None => Ok(None),
+/// The field of a variant at its place, if its fields have names.
+fn field_at<'a>(content: &Content<'a>, i: usize) -> Option<Field<'a>> {
+    match content {
+        Content::Fields(fields) => fields.get(i).copied(),
+        _ => None,
     }
 }
 
@@ -100,19 +97,28 @@ fn held_of<'a>(
     })
 }
 
-/// A part of this type at its place.
+/// A part of this type at its place, which may be a field with a name.
 fn leaf_of<'a>(
     alloc: Global,
     cycle: &Cycle<'a>,
     of: Type<'a>,
-    (i, value, key): (usize, String, Option<String>),
+    (i, value): (usize, String),
+    field: Option<Field<'a>>,
 ) -> Result<Leaf<'a>, Fault> {
     let nested = nested_part(alloc, cycle, of)?;
     let root = names_of(alloc, cycle.root.text)?;
+    let (key, missing) = match field {
+        Some(field) => (
+            Some(field_name(alloc, field, None)?),
+            missing_of(alloc, field, &nested)?,
+        ),
+        None => (None, None),
+    };
     Ok(Leaf {
         part: part_of(alloc, &root, &nested)?,
         nested,
         key,
+        missing,
         value,
         legal: format!(in alloc; "h{i}")?,
     })

@@ -3,6 +3,7 @@
 
 use crate::answers::{Answers, HEAD, Place};
 use crate::brought::content_names;
+use crate::failed_steps::{late_json_answers, lemmas};
 use crate::held::Held;
 use crate::json_rows::{Appended, fields_proof};
 use crate::nested::Nested;
@@ -44,6 +45,7 @@ pub(crate) fn json_writer(
     );
     holes.put("SPECS", specs.as_str());
     holes.put("GOALS", place.goals.as_str());
+    holes.put("LEMMAS", lemmas(members));
     holes.put("ANSWERS", answers.as_str());
     Ok(Some(Answers {
         path: format!(in alloc; "{folder}/+write_{snake}_json/Answers.antt")?,
@@ -73,7 +75,7 @@ use Rattle.nano_json_schema.proofs.WrittenFields.{more_fields}
 use Rattle.nano_json_nested.proofs.WrittenLaws.{written_between$BESIDE}
 use Rattle.$LIBRARY.proofs.$STEMJsonCodecsLaws.{$CITED}
 $SPECSuse $GOALS.+write_$BASE_json.Goals as goal
-$ANSWERS";
+$LEMMAS$ANSWERS";
 
 /// The lines that bring in the definitions that the answers for variants cite, if a type has such.
 fn cited_definitions(
@@ -190,8 +192,10 @@ fn struct_answers(
         opening(alloc, &row)?,
         between(alloc, &row, inside.as_str())?,
     );
+    let late = late_json_answers(alloc, nested, held, "append_record")?;
     let mut holes = nested.holes(alloc);
     let law = holes.fill(if nested.is_around() { "" } else { BY_LAW })?;
+    holes.put("LATE", late.as_str());
     holes.put("ROLLBACK", rollback.as_str());
     holes.put("OPENING", opening.as_str());
     holes.put("LAW", law.as_str());
@@ -210,7 +214,7 @@ $NAMEJsonWriter::append_record-returns-clause-ok t c =
     let x = c.args.value.now in
 $OPENING
     $LAW$BETWEEN
-";
+$LATE";
 
 /// The answers for what writes a variant with named fields.
 fn variant_answers(
@@ -229,12 +233,15 @@ fn variant_answers(
         between(alloc, &row, inside.as_str())?,
     );
     let content = content_answer(alloc, nested, held, append.as_str())?;
+    let fields = format!(in alloc; "{append}_fields")?;
+    let late = late_json_answers(alloc, nested, held, fields.as_str())?;
     let mut holes = nested.holes(alloc);
     holes.put("ROLLBACK", rollback.as_str());
     holes.put("APPEND", append.as_str());
     holes.put("OPENING", opening.as_str());
     holes.put("BETWEEN", between.as_str());
     holes.put("CONTENT", content.as_str());
+    holes.put("LATE", late.as_str());
     holes.fill(VARIANT_ANSWERS)
 }
 
@@ -244,7 +251,7 @@ pub $NAMEJsonWriter::$APPEND_fields-returns-clause-ok :
 $NAMEJsonWriter::$APPEND_fields-returns-clause-ok t c =
 $OPENING
     $BETWEEN
-$CONTENT";
+$LATE$CONTENT";
 
 /// The answer for the function that appends a variant with named fields: its name, and the fields.
 fn content_answer(

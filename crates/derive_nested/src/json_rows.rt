@@ -130,6 +130,15 @@ fn call_of(held: &Held<'_>, i: usize) -> &'static str {
     }
 }
 
+/// The names of the steps that append the fields.
+pub(crate) fn steps_of(alloc: Global, held: &Held<'_>) -> Result<Vec<String>, AllocError> {
+    let mut steps = Vec::new(alloc);
+    for (i, _leaf) in held.leaves.iter().enumerate() {
+        steps.push(step_of(alloc, held, i)?)?;
+    }
+    Ok(steps)
+}
+
 /// The name of the step that appends the field at a place.
 fn step_of(alloc: Global, held: &Held<'_>, i: usize) -> Result<String, AllocError> {
     match held.called.get(i.saturating_add(1)) {

@@ -3,6 +3,7 @@
 
 use crate::answers::{Answers, HEAD, Place};
 use crate::codec_laws::law_end;
+use crate::failed_steps::{late_ron_answers, lemmas};
 use crate::held::Held;
 use crate::nested::Nested;
 use crate::ron_rows::{Written, fields_proof, struct_proof};
@@ -34,6 +35,7 @@ pub(crate) fn ron_writer(
     holes.put("STEM", stem);
     holes.put("CITED", cited.as_str());
     holes.put("GOALS", goals);
+    holes.put("LEMMAS", lemmas(members));
     holes.put("ANSWERS", answers.as_str());
     Ok(Some(Answers {
         path: format!(in alloc; "{folder}/+write_{snake}_ron/Answers.antt")?,
@@ -57,6 +59,8 @@ fn append_answers(
         cited.push_str(if cited.is_empty() { "" } else { ", " })?;
         cited.push_str(written.cited.as_str())?;
         answers.push_str(answered(alloc, nested, &names, &written)?.as_str())?;
+        let late = late_ron_answers(alloc, nested, held, names.append.as_str())?;
+        answers.push_str(late.as_str())?;
     }
     Ok(())
 }
@@ -73,7 +77,7 @@ use Rattle.nano_ron_schema.proofs.WrittenFields.{more_lines}
 use Rattle.nano_ron_nested.proofs.WrittenLaws.{written_between}
 use Rattle.$LIBRARY.proofs.$STEMRonCodecsLaws.{$CITED}
 use $GOALS.+write_$BASE_ron.Goals as goal
-$ANSWERS";
+$LEMMAS$ANSWERS";
 
 /// The names of what writes a struct, or a variant.
 #[derive(Drop)]

@@ -43,6 +43,7 @@ pub(crate) const RON: [Known; 13] = [
     Known {
         module: "nano_ron_schema.specs.FieldCodecs",
         names: &[
+            "defaulted_field",
             "no_fields",
             "optional_field",
             "required_field",

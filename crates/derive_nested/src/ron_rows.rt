@@ -168,6 +168,15 @@ fn state_before(alloc: Global, held: &Held<'_>, i: usize) -> Result<String, Allo
     format!(in alloc; "(string_bytes c.{call}.new.s.out)")
 }
 
+/// The names of the calls that append the fields.
+pub(crate) fn calls_of(alloc: Global, held: &Held<'_>) -> Result<Vec<String>, AllocError> {
+    let mut calls = Vec::new(alloc);
+    for (i, _leaf) in held.leaves.iter().enumerate() {
+        calls.push(call_at(alloc, held, i)?)?;
+    }
+    Ok(calls)
+}
+
 /// The name of the call that appends the field at a place: from the second of a name on with its
 /// number.
 fn call_at(alloc: Global, held: &Held<'_>, i: usize) -> Result<String, AllocError> {

@@ -12,6 +12,8 @@ pub(crate) struct Leaf<'a> {
     pub(crate) nested: NestedPart<'a>,
     /// What it is called in texts, if it is a named field.
     pub(crate) key: Option<String>,
+    /// What it means where it is missing, if it is a field with a default.
+    pub(crate) missing: Option<String>,
     /// What is said of it.
     pub(crate) part: Part,
     /// Its value.

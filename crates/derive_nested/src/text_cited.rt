@@ -31,6 +31,7 @@ pub(crate) const TEXTS: [Known; 13] = [
     Known {
         module: "nano_schema_levels.proofs.FieldLayersLaws",
         names: &[
+            "defaulted_layer",
             "fields_pair_layer",
             "optional_layer",
             "other_fields",
@@ -118,6 +119,7 @@ pub(crate) const JSON: [Known; 11] = [
         module: "nano_json_schema.specs.FieldCodecs",
         names: &[
             "ascii_names",
+            "defaulted_field",
             "json_fields",
             "optional_field",
             "required_field",

@@ -110,8 +110,11 @@ pub(crate) fn row_layer(
     )
 }
 
-/// The layer of a field, which may be missing if it is an option.
+/// The layer of a field, which may be missing if it is an option or has a default.
 fn field_layer(alloc: Global, format: &TextTerms, leaf: &Leaf<'_>) -> Result<String, AllocError> {
+    if let Some(missing) = &leaf.missing {
+        return default_layer(alloc, format, leaf, missing.as_str());
+    }
     let key = match &leaf.key {
         Some(key) => key.as_str(),
         None => "",
@@ -128,6 +131,27 @@ fn field_layer(alloc: Global, format: &TextTerms, leaf: &Leaf<'_>) -> Result<Str
     }
     let codec = field_codec(alloc, leaf, "")?;
     format!(in alloc; "other_fields {style} ({codec})")
+}
+
+/// The layer of a field that means this where it is missing.
+fn default_layer(
+    alloc: Global,
+    format: &TextTerms,
+    leaf: &Leaf<'_>,
+    missing: &str,
+) -> Result<String, AllocError> {
+    let key = match &leaf.key {
+        Some(key) => key.as_str(),
+        None => "",
+    };
+    let style = format.fields;
+    if leaf.nested.is_within() {
+        let part = part_layer(alloc, format, leaf, &leaf.nested.holders)?;
+        let part = atom(alloc, part.as_str())?;
+        return format!(in alloc; "defaulted_layer {style} (codes \"{key}\") {part} {missing}");
+    }
+    let codec = atom(alloc, leaf.part.codec.as_str())?;
+    format!(in alloc; "other_fields {style} (defaulted_field (codes \"{key}\") {codec} {missing})")
 }
 
 /// The codec of a field, where that of the type itself is this one.

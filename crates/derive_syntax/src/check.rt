@@ -7,6 +7,7 @@ mod keys;
 mod known;
 mod names;
 mod nested;
+mod nested_defaults;
 mod nested_json;
 mod shared;
 

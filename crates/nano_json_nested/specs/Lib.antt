@@ -1,2 +1,3 @@
+pub mod DefaultImpls
 pub mod Depth
 pub mod Parts

@@ -34,6 +34,8 @@ mod mutation_tests;
 #[cfg(test)]
 mod named_forms;
 #[cfg(test)]
+mod nested_default_forms;
+#[cfg(test)]
 mod nested_faults;
 #[cfg(test)]
 mod nested_forms;

@@ -156,9 +156,37 @@ enum A {
 struct A {
     a: Vec<A>,
     // nanoserde: default
+    b: Option<u8>,
+}
+=> 4:19: `default` stands above an `Option` in a type that contains itself
+----
+// nanoserde: json
+struct A {
+    a: Vec<A>,
+    // nanoserde: default
+    b: Box<u8>,
+}
+=> 4:19: `default` is in a type that contains itself for a number, `bool`, `()`, a `String`
+----
+use crate::b::{B, C};
+
+// nanoserde: json
+enum A {
+    B { a: Vec<A> },
+    C {
+        // nanoserde: default = "C"
+        c: B,
+    },
+}
+=> 7:33: `"C"` is no number, boolean or text of the field's type
+----
+// nanoserde: ron
+struct A {
+    a: Vec<A>,
+    // nanoserde: default = "256"
     b: u8,
 }
-=> 4:19: `default` stands in a type that contains itself
+=> 4:29: `"256"` is no number of the field's type
 ----
 // nanoserde: bin
 struct A {
@@ -228,4 +256,5 @@ struct A {
     // nanoserde: levels = "64"
     a: Vec<A>,
 }
-=> 3:19: `levels` stands only above a struct or an enum"#;
+=> 3:19: `levels` stands only above a struct or an enum
+"#;

@@ -4,6 +4,7 @@ use crate::cycle_faults::CYCLES;
 use crate::cycle_forms::{CYCLE_FILES, CYCLE_IMPLS};
 use crate::fault_tests::are_reported;
 use crate::form_tests::{are_written, has_lines};
+use crate::nested_default_forms::{DEFAULT_FILES, DEFAULT_IMPLS};
 use crate::nested_faults::NESTED;
 use crate::nested_forms::{FILES, IMPLS};
 use crate::outcome::MODULE;
@@ -67,12 +68,14 @@ fn is_reported(alloc: Global) -> bool {
 fn impls_are_written_within_levels(rt: HostRuntime) {
     are_written(&rt, rt.alloc(), IMPLS);
     are_written(&rt, rt.alloc(), CYCLE_IMPLS);
+    are_written(&rt, rt.alloc(), DEFAULT_IMPLS);
 }
 
 #[test]
 fn definitions_and_laws_stand_beside_the_sources(rt: HostRuntime) {
     are_beside(&rt, rt.alloc(), FILES);
     are_beside(&rt, rt.alloc(), CYCLE_FILES);
+    are_beside(&rt, rt.alloc(), DEFAULT_FILES);
 }
 
 #[test]

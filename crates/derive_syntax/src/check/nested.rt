@@ -2,6 +2,7 @@
 
 use crate::check::defaults::is_number;
 use crate::check::known::is_defined;
+use crate::check::nested_defaults::check_default;
 use crate::check::nested_json::check_nested_json;
 use crate::cycle::Cycle;
 use crate::nested::{Core, nested_part};
@@ -45,7 +46,7 @@ const NO_FILE: &str = "contains itself, or has a part that does, and stands in a
     that file's module and the type";
 
 const NO_WORD: &str = "stands in a type that contains itself: above its fields and variants is no \
-    attribute but `rename`";
+    attribute but `rename` and `default`";
 
 /// An error where a type with formats contains itself in a way that is not written, by however many
 /// other types.
@@ -144,18 +145,15 @@ fn check_fields<'a>(
     for field in fields {
         check_words(alloc, field.attributes)?;
         check_part(alloc, source, cycle, field.of)?;
+        check_default(alloc, cycle, *field)?;
     }
     Ok(())
 }
 
-/// An error at an attribute of a field that changes more than its name.
+/// An error at an attribute of a field that changes more than its name and its default.
 fn check_words(alloc: Global, attributes: Attributes<'_>) -> Result<(), Fault> {
     let aliases = attributes.aliases(alloc)?;
-    let word = match (attributes.skip, attributes.default) {
-        (Some(word), _) | (None, Some(word)) => Some(word),
-        (None, None) => aliases.first().copied(),
-    };
-    match word {
+    match attributes.skip.or(aliases.first().copied()) {
         Some(word) => Err(word.fault(NO_WORD)),
         None => Ok(()),
     }

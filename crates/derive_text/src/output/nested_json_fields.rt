@@ -77,8 +77,9 @@ fn other<'a>(
         Some(_part) => "Optional",
         None => "Required",
     };
+    // A field with a default is written as one that must be there.
     let mut parts = String::new(alloc);
-    for text in &leaf.texts {
+    for text in leaf.texts.get(..2).unwrap_or(&[]) {
         parts.push_str(if parts.is_empty() { "" } else { ", " })?;
         parts.push_str(text.as_str())?;
     }

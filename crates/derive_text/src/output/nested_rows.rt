@@ -3,6 +3,7 @@
 
 use crate::output::nested_bodies::{record_making, variants_making};
 use derive_impls::chains::append_owned_chains;
+use derive_impls::defaults::append_default;
 use derive_impls::fields::field_texts;
 use derive_impls::labels::{append_labels, name_of};
 use derive_impls::layout::Items;
@@ -57,25 +58,30 @@ fn field_leaves<'a>(
         names.push(field_name(sheet.alloc, *field, None)?)?;
     }
     let labels = append_labels(sheet, owner, &names)?;
-    labelled(sheet, target, fields, labels)
+    labelled(sheet, target, (owner, fields), labels)
 }
 
-/// Fields with these labels as they stand in a row.
+/// The fields of an owner, with these labels, as they stand in a row: after the types that stand
+/// for their defaults.
 fn labelled<'a>(
     sheet: &mut Sheet,
     target: &Target<'a>,
-    fields: &[Field<'a>],
+    (owner, fields): (&str, &[Field<'a>]),
     labels: Vec<String>,
 ) -> Result<Vec<Leaf>, AllocError> {
     let mut leaves = Vec::new(sheet.alloc);
     for (field, label) in fields.iter().zip(labels) {
-        let (kind, part) = match optional_part(field.of) {
-            Some(part) => ("nano_schema::Optional<", part),
-            None => ("nano_schema::Required<", field.of),
+        let (kind, part) = match (field.attributes.default, optional_part(field.of)) {
+            (Some(_word), _) => ("nano_schema::Defaulted<", field.of),
+            (None, Some(part)) => ("nano_schema::Optional<", part),
+            (None, None) => ("nano_schema::Required<", field.of),
         };
         let mut texts = Vec::new(sheet.alloc);
         texts.push(label)?;
         texts.push(type_text(sheet.alloc, part)?)?;
+        if field.attributes.default.is_some() {
+            texts.push(append_default(sheet, target, owner, *field)?)?;
+        }
         leaves.push(leaf(sheet, target, (kind, field.of), texts)?)?;
     }
     Ok(leaves)

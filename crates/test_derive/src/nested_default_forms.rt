@@ -1,0 +1,33 @@
+//! A source with defaults in a type that contains itself, and lines that are written of it.
+
+/// Lines of the module of the impls.
+pub(crate) const DEFAULT_IMPLS: &str = r#"// nanoserde: json ron
+struct A {
+    // nanoserde: default
+    a: Vec<A>,
+    // nanoserde: default = "7"
+    b: u8,
+}
+=>
+impl DefaultOf<u8> for ABDefault {
+    ghost missing = { whole 7 };
+=>
+type AFields = (
+    Within<Defaulted<ANames<0>, Vec<A>, TypeDefault>>,
+    Other<Defaulted<ANames<1>, u8, ABDefault>>,
+);
+=>
+        append_required(alloc, "b", &value.b, inner, s)?;"#;
+
+/// Lines of the files beside the sources.
+pub(crate) const DEFAULT_FILES: &str = r#"// nanoserde: json ron
+struct A {
+    // nanoserde: default
+    a: Vec<A>,
+    // nanoserde: default = "-7"
+    b: i8,
+}
+=>
+(defaulted_layer json_fields (codes "a") (seen_layer (λ x. x.items) (list_layer block_style block_brackets itself_layer)) nothing)
+=>
+(other_fields ron_fields (defaulted_field (codes "b") i8_codec (number (neg_ℤ (pos 7)))))"#;

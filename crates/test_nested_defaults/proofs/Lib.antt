@@ -1,0 +1,3 @@
+mod WidgetCodecsLaws
+mod WidgetJsonCodecsLaws
+mod WidgetRonCodecsLaws

@@ -1,0 +1,55 @@
+-- Written by derive_files: what is proved of types that contain themselves.
+use Rattle.std.specs.Prelude.{◌≡◌, ℕ, List, refl, codes, String, Vec, string_cmp}
+use Rattle.std.specs.BTreeMap.{BTreeMap}
+use Rattle.std.specs.Global.{Global}
+use Rattle.nano_meaning.proofs.OrderLaws.{texts}
+use Rattle.nano_grammar.specs.FieldCodec.{WrittenField, fields_text}
+use Rattle.nano_schema_levels.proofs.NestedLaws.{text_seen}
+use Rattle.nano_ron.specs.Codec.{codec_as}
+use Rattle.nano_ron.specs.ScalarCodecs.{boolean_codec}
+use Rattle.nano_ron.specs.ContainerCodecs.{ordered_map_codec}
+use Rattle.nano_ron_tokens.specs.Token.{Token}
+use Rattle.nano_ron_schema.specs.FieldCodecs.{required_field, ron_fields}
+use Rattle.nano_ron_nested.specs.TypeCodecs.{list_codec, u16_codec, i32_codec, string_codec}
+use Rattle.test_nested_defaults.specs.declared.widget.Widget.{Widget}
+use Rattle.test_nested_defaults.specs.WidgetCodecs.{widget_view}
+use Rattle.test_nested_defaults.specs.WidgetRonCodecs.{widget_ron_nested, widget_ron, widget_ron_fields}
+use Rattle.test_nested_defaults.specs.declared.widget.Widget.TheViews.{out-Widget}
+
+-- ==== Widget
+
+abbrev pub widget_ron_field_title : Widget → List (WrittenField Token)
+widget_ron_field_title x =
+    (required_field (codes "title") string_codec).canonical.fields (out-Widget x).title
+
+abbrev pub widget_ron_field_shortcut : Widget → List (WrittenField Token)
+widget_ron_field_shortcut x =
+    (required_field (codes "shortcut") string_codec).canonical.fields (out-Widget x).shortcut
+
+abbrev pub widget_ron_field_width : Widget → List (WrittenField Token)
+widget_ron_field_width x =
+    (required_field (codes "width") u16_codec).canonical.fields (out-Widget x).width
+
+abbrev pub widget_ron_field_row : Widget → List (WrittenField Token)
+widget_ron_field_row x =
+    (required_field (codes "row") i32_codec).canonical.fields (out-Widget x).row
+
+abbrev pub widget_ron_field_is_open : Widget → List (WrittenField Token)
+widget_ron_field_is_open x =
+    (required_field (codes "is_open") boolean_codec).canonical.fields (out-Widget x).is_open
+
+abbrev pub widget_ron_field_entries : Widget → List (WrittenField Token)
+widget_ron_field_entries x =
+    (required_field (codes "entries") (codec_as (λ (x : Vec Widget Global). x.items) (list_codec widget_ron))).canonical.fields (out-Widget x).entries
+
+abbrev pub widget_ron_field_others : Widget → List (WrittenField Token)
+widget_ron_field_others x =
+    (required_field (codes "others") (codec_as (λ (x : BTreeMap (String Global) Widget). x.entries) (ordered_map_codec texts string_cmp string_codec widget_ron))).canonical.fields (out-Widget x).others
+
+abbrev pub widget_ron_written : Widget → List (WrittenField Token)
+widget_ron_written x =
+    (widget_ron_fields.codec widget_ron).canonical.fields (widget_view x)
+
+pub widget_ron_text : (d : ℕ) → (x : Widget) → widget_ron.canonical.text d x
+    ≡ fields_text ron_fields d (widget_ron_written x)
+widget_ron_text d x = text_seen widget_ron_nested 128 d x (widget_view x) refl

@@ -1,0 +1,3 @@
+pub mod WidgetCodecs
+pub mod WidgetJsonCodecs
+pub mod WidgetRonCodecs

@@ -1,0 +1,11 @@
+//! A user-defined type that contains itself and has defaults, whose impls, definitions and proofs are
+//! written by `derive`; and the laws of each format, called of such types.
+#![tactic(auto)]
+
+#[cfg(test)]
+mod law_tests;
+#[cfg(test)]
+mod tests;
+mod widget;
+
+pub use widget::Widget;
