@@ -28,6 +28,7 @@ struct A {
     b: i8,
 }
 =>
-(defaulted_layer json_fields (codes "a") (seen_layer (λ x. x.items) (list_layer block_style block_brackets itself_layer)) nothing)
+    fields_pair_layer (defaulted_layer json_fields (codes "a") (seen_layer (λ x. x.items) (list_layer block_style block_brackets itself_layer)) nothing) (other_fields json_fields (defaulted_field (codes "b") i8_codec (number (neg_ℤ (pos 7)))))
 =>
-(other_fields ron_fields (defaulted_field (codes "b") i8_codec (number (neg_ℤ (pos 7)))))"#;
+(other_fields ron_fields (defaulted_field (codes "b") i8_codec (number (neg_ℤ (pos 7)))))
+"#;

@@ -256,5 +256,4 @@ struct A {
     // nanoserde: levels = "64"
     a: Vec<A>,
 }
-=> 3:19: `levels` stands only above a struct or an enum
-"#;
+=> 3:19: `levels` stands only above a struct or an enum"#;

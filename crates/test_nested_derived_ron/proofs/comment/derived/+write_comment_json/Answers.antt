@@ -8,6 +8,23 @@ use Rattle.nano_json_schema.proofs.WrittenFields.{more_fields}
 use Rattle.nano_json_nested.proofs.WrittenLaws.{written_between, none_so_far}
 use Rattle.test_nested_derived_ron.proofs.CommentJsonCodecsLaws.{comment_json_text, comment_json_field_author, comment_json_field_text, comment_json_field_votes, comment_json_field_pinned, comment_json_field_quoted, comment_json_field_answers}
 use Rattle.test_nested_derived_ron.proofs.comment.derived.+write_comment_json.Goals as goal
+use Rattle.std.proofs.Common.{◌≡◌, ◌∙◌, ℕ, List, [], Result, Ok, Err, OnErr, ap, append_assoc, append-nil, sym}
+use Rattle.std.proofs.lemmas.Result.{on_err_weaker}
+
+-- what was written before a failure, and what the failure left
+more_after : (a b c x : List ℕ) → b ≡ a ++ x → (more : List ℕ) × (c ≡ b ++ more)
+    → (more : List ℕ) × (c ≡ a ++ more)
+more_after a b c x e m =
+    (x ++ m.0, m.1 ∙ (ap (λ l. l ++ m.0) e ∙ append_assoc a x m.0))
+
+-- nothing, where the last step left nothing
+no_more : {a b : List ℕ} → b ≡ a → (more : List ℕ) × (b ≡ a ++ more)
+no_more {a} {b} e = ([], e ∙ sym (append-nil a))
+
+-- it is said of an error, whatever it is
+of_error : {T E P : Type 0} (r : Result T E) → P → OnErr r P
+of_error (Ok x) p = tt
+of_error (Err e) p = p
 
 pub CommentWritesJson::write_json-rollback_on_error-requires :
     goal.CommentWritesJson::write_json-rollback_on_error-requires
@@ -42,3 +59,26 @@ CommentJsonWriter::append_record-returns-clause-ok t c =
     (written_between c.args.d inner (((comment_json_field_author x) ++ ((comment_json_field_text x) ++ (comment_json_field_votes x))) ++ ((comment_json_field_pinned x) ++ ((comment_json_field_quoted x) ++ (comment_json_field_answers x)))) before opened
     (string_bytes c.append_required_within.new.s.out) (string_bytes c.st_post.new.self.out) c.saturating_add-inner.ensures
     c.in_ok-st_pre.ensures.ok row) c.st_post.ensures.ok)
+
+pub CommentJsonWriter::append_record-returns-in_err-append_required_within-clause-err :
+    goal.CommentJsonWriter::append_record-returns-in_err-append_required_within-clause-err
+CommentJsonWriter::append_record-returns-in_err-append_required_within-clause-err t c =
+    of_error _ (more_after _ _ _ _ c.in_ok-st_pre.ensures.ok
+    (more_after _ _ _ _ c.in_ok-text_is_first.ensures.ok
+    (more_after _ _ _ _ c.in_ok-votes_is_first.ensures.ok
+    (more_after _ _ _ _ c.in_ok-pinned_is_first.ensures.ok
+    (more_after _ _ _ _ c.in_ok-quoted_is_first.ensures.ok
+    (more_after _ _ _ _ c.in_ok-answers_is_first.ensures.ok
+    c.in_err-append_required_within.ensures.err))))))
+
+pub CommentJsonWriter::append_record-returns-clause-err :
+    goal.CommentJsonWriter::append_record-returns-clause-err
+CommentJsonWriter::append_record-returns-clause-err t c =
+    on_err_weaker c.st_post.result (λ same. (more_after _ _ _ _ c.in_ok-st_pre.ensures.ok
+    (more_after _ _ _ _ c.in_ok-text_is_first.ensures.ok
+    (more_after _ _ _ _ c.in_ok-votes_is_first.ensures.ok
+    (more_after _ _ _ _ c.in_ok-pinned_is_first.ensures.ok
+    (more_after _ _ _ _ c.in_ok-quoted_is_first.ensures.ok
+    (more_after _ _ _ _ c.in_ok-answers_is_first.ensures.ok
+    (more_after _ _ _ _ c.in_ok-append_required_within.ensures.ok
+    (no_more same))))))))) c.st_post.ensures.err
