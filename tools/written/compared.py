@@ -234,7 +234,7 @@ def compare_levels(impls, name, limit, is_root):
         if trait != "DeBin":
             got = re.search(r"\(levels, (\d+), alloc", block)[1]
             same(f"count of `{trait}` for `{name}`", limit or "128", got)
-            reader = impls.block(rf"(?:\w+::)?Reads{trait[2:]}<{name}> for (?:\w+::)?Levels")
+            reader = impls.block(rf"(?:\w+::)?Reads{trait[2:]}<{name}(?:<[^{{]*>)?> for (?:\w+::)?Levels")
             found = re.search(r"Err\((?:\w+::)?(too_\w+)\(alloc, (?:(\d+), )?state\)\)", reader)
             got = found and found.groups()
             wanted = (("too_many_levels", limit) if limit else ("too_deep", None)) if is_root else None

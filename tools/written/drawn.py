@@ -126,12 +126,17 @@ def drawn_nested(draw, name, formats, words):
     if draw.random() < 0.4:
         lines.append("#[cycle(n)]")
         around = drawn_around(draw, name, formats, words)
+    parameters = [] if around else draw.sample(["T", "Key", "V2"], draw.choice([0, 0, 1, 2]))
+    name += f"<{', '.join(parameters)}>" * bool(parameters)
+    held = [draw.choice(AROUND).format(parameter) for parameter in parameters]
     itself = draw.choice(ITSELF).replace("$", f"R{name}" if around else name)
     if draw.random() < 0.4:
         fields = drawn_nested_fields(draw, name, draw.sample(words, draw.randrange(5)), "pub ")
+        fields += [f"    pub held_{place}: {type}," for place, type in enumerate(held)]
         return lines + [f"pub struct {name} {{", *fields, f"    pub itself: {itself},", "}", *around]
     in_text = formats != "bin"
     lines += [f"pub enum {name} {{", f"    Itself({itself}),"]
+    lines += [f"    Held{place}({type})," for place, type in enumerate(held)]
     for variant in draw.sample(["Stop", "MoveOn", "Say", "ListAll", "Wait"], draw.randrange(1, 5)):
         kind = draw.randrange(3)
         if kind == 0:

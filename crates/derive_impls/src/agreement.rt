@@ -30,13 +30,18 @@ pub(crate) fn agreement_of<'a>(
     })
 }
 
+/// The terms of a type with no parameters.
+pub(crate) fn agreed(alloc: Global) -> Result<Agreement, AllocError> {
+    Ok(Agreement {
+        agrees: String::from_str(alloc, "agreed")?,
+        decodable: String::from_str(alloc, "refl")?,
+    })
+}
+
 /// The terms, in which items are said by their paths.
 fn terms<'a>(alloc: Global, definition: &Definition<'a>, full: &str) -> Result<Agreement, Fault> {
     if definition.parameters.is_empty() {
-        return Ok(Agreement {
-            agrees: String::from_str(alloc, "agreed")?,
-            decodable: String::from_str(alloc, "refl")?,
-        });
+        return Ok(agreed(alloc)?);
     }
     match &definition.shape {
         Shape::Fields(fields) => {

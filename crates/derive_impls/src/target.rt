@@ -1,6 +1,6 @@
 //! The type whose impls are written.
 
-use crate::agreement::{Agreement, agreement_of};
+use crate::agreement::{Agreement, agreed, agreement_of};
 use crate::bounds::opening;
 use crate::fields::are_skipped;
 use crate::held::are_deep;
@@ -51,6 +51,25 @@ impl<'a> Target<'a> {
         module: &'a str,
         definition: &Definition<'a>,
     ) -> Result<Target<'a>, Fault> {
+        Target::of(sheet, module, definition, false)
+    }
+
+    /// The type of a definition that contains itself: definitions of its own say its codecs.
+    pub fn nested(
+        sheet: &mut Sheet,
+        module: &'a str,
+        definition: &Definition<'a>,
+    ) -> Result<Target<'a>, Fault> {
+        Target::of(sheet, module, definition, true)
+    }
+
+    /// The type of a definition, which contains itself or does not.
+    fn of(
+        sheet: &mut Sheet,
+        module: &'a str,
+        definition: &Definition<'a>,
+        is_nested: bool,
+    ) -> Result<Target<'a>, Fault> {
         let name = definition.name.text;
         let arguments = bounds(sheet.alloc, "", &definition.parameters, "")?;
         let full = format!(in sheet.alloc; "{name}{arguments}")?;
@@ -59,7 +78,11 @@ impl<'a> Target<'a> {
             row: row_name(sheet, definition, arguments.as_str())?,
             values: type_name(sheet, name, "Values", arguments.as_str())?,
             refs: type_name(sheet, name, "Refs", borrowed.as_str())?,
-            agreement: agreement_of(sheet, definition, full.as_str())?,
+            agreement: if is_nested {
+                agreed(sheet.alloc)?
+            } else {
+                agreement_of(sheet, definition, full.as_str())?
+            },
             parameters: definition.parameters.clone()?,
             open: opening(sheet.alloc, &definition.bounds)?,
             is_deep: are_deep(

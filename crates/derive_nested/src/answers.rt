@@ -1,9 +1,14 @@
 //! The answers to what is to be proved of the impls of a type that contains itself.
 
 use crate::formats::first_codecs_name;
+use crate::generic_answers::with_writer;
+use crate::generic_goals::with_goals;
+use crate::generic_readers::later_reader;
 use crate::json_answers::json_writer;
 use crate::known_answers::known_answers;
+use crate::known_struct::known_struct;
 use crate::nested::Nested;
+use crate::parameters::{Format, first_of};
 use crate::ron_answers::ron_writer;
 use crate::text_answers::text_reader;
 use crate::text_codec::{JSON, RON, TextTerms};
@@ -29,45 +34,72 @@ pub(crate) fn answers_of(
 ) -> Result<Vec<Answers>, AllocError> {
     let mut files = Vec::new(alloc);
     let place = place_of(alloc, module)?;
+    let first = first_of(attributes);
     let file = first_codecs_name(alloc, module, attributes)?;
-    if let Some(nested) = members.last() {
-        if nested.is_enum {
-            files.push(known_answers(alloc, nested, &place, file.as_str())?)?;
-        }
-        if attributes.bin.is_used() {
-            files.push(read_answers(alloc, nested, &place)?)?;
-        }
+    let Some(nested) = members.last() else {
+        return Ok(files);
+    };
+    let mut own = Own {
+        alloc,
+        nested,
+        files: &mut files,
+    };
+    if nested.is_enum {
+        let known = known_answers(alloc, nested, &place, file.as_str())?;
+        own.append(first.name, Some(known))?;
+    } else if nested.is_generic() {
+        let known = known_struct(alloc, module, nested, (&place, file.as_str()))?;
+        own.append(first.name, Some(known))?;
+    }
+    if attributes.bin.is_used() {
+        own.append("bin", Some(read_answers(alloc, nested, &place)?))?;
+        own.append("bin", with_writer(alloc, nested, ("bin", &place), None)?)?;
     }
     if attributes.json.is_used() {
-        append_reader(alloc, members, (&JSON, &place), &mut files)?;
-        append(json_writer(alloc, members, &place)?, &mut files)?;
+        let writer = json_writer(alloc, members, &place)?;
+        own.append_texts(&JSON, (first, &place), writer)?;
     }
     if attributes.ron.is_used() {
-        append_reader(alloc, members, (&RON, &place), &mut files)?;
-        append(ron_writer(alloc, members, &place)?, &mut files)?;
+        let writer = ron_writer(alloc, members, &place)?;
+        own.append_texts(&RON, (first, &place), writer)?;
     }
     Ok(files)
 }
 
-/// Appends answers, if there are any.
-fn append(answers: Option<Answers>, files: &mut Vec<Answers>) -> Result<(), AllocError> {
-    match answers {
-        Some(answers) => Ok(files.push(answers)?),
-        None => Ok(()),
-    }
+/// The files of the answers for a type, or for the root of several.
+#[derive(Drop)]
+struct Own<'f, 'n, 'a> {
+    /// Where memory comes from.
+    alloc: Global,
+    /// The type.
+    nested: &'n Nested<'a>,
+    /// The files.
+    files: &'f mut Vec<Answers>,
 }
 
-/// Appends the answers for what reads a format of texts: only the root takes them.
-fn append_reader(
-    alloc: Global,
-    members: &[Nested<'_>],
-    (format, place): (&TextTerms, &Place<'_>),
-    files: &mut Vec<Answers>,
-) -> Result<(), AllocError> {
-    if let Some(nested) = members.last() {
-        files.push(text_reader(alloc, nested, format, place)?)?;
+impl Own<'_, '_, '_> {
+    /// Appends answers that speak of the format of this name, if there are any.
+    fn append(&mut self, format: &'static str, answers: Option<Answers>) -> Result<(), AllocError> {
+        let Some(Answers { path, text }) = answers else {
+            return Ok(());
+        };
+        let text = with_goals(self.alloc, self.nested, format, text)?;
+        Ok(self.files.push(Answers { path, text })?)
     }
-    Ok(())
+
+    /// Appends the answers for what reads and writes a format of texts: only the root takes those of
+    /// the reader.
+    fn append_texts(
+        &mut self,
+        format: &TextTerms,
+        (first, place): (Format, &Place<'_>),
+        writer: Option<Answers>,
+    ) -> Result<(), AllocError> {
+        let (alloc, nested, name) = (self.alloc, self.nested, format.name);
+        self.append(name, Some(text_reader(alloc, nested, format, place)?))?;
+        self.append(name, later_reader(alloc, nested, format, (first, place))?)?;
+        self.append(name, with_writer(alloc, nested, (name, place), writer)?)
+    }
 }
 
 /// What stands in the answers for the functions of the types of a module.

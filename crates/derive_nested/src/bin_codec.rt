@@ -4,6 +4,7 @@
 use crate::coded::{Coded, nested_record};
 use crate::definitions::{equation, root_first};
 use crate::nested::Nested;
+use crate::parameters::coded_by;
 use crate::row::layer_of;
 use crate::wrapped::atom;
 use std::alloc::{AllocError, Global};
@@ -20,6 +21,7 @@ pub(crate) fn bin_codecs(alloc: Global, members: &[Nested<'_>]) -> Result<String
     }
     for nested in root_first(alloc, members)? {
         text.push_str(codec(alloc, nested)?.as_str())?;
+        text.push_str(read(alloc, nested)?.as_str())?;
     }
     Ok(text)
 }
@@ -78,6 +80,27 @@ fn codec(alloc: Global, nested: &Nested<'_>) -> Result<String, AllocError> {
     let codec = if nested.is_around() { AROUND } else { CODEC };
     nested.all_holes(alloc)?.fill(codec)
 }
+
+/// That a type with parameters is read, if these are.
+fn read(alloc: Global, nested: &Nested<'_>) -> Result<String, AllocError> {
+    if !nested.is_generic() {
+        return Ok(String::new(alloc));
+    }
+    let bin = coded_by("bin");
+    let premises = nested.of_each(alloc, "$SNAKE_bin.is_decodable ≡ true → ", bin, "")?;
+    let names = nested.of_each(alloc, "$SNAKE_read", bin, " ")?;
+    let each = nested.of_each(alloc, "$SNAKE_read", bin, ", ")?;
+    let mut holes = nested.holes(alloc);
+    holes.put("PREMISES", premises.as_str());
+    holes.put("GIVEN", names.as_str());
+    holes.put("EACH", each.as_str());
+    holes.fill(READ)
+}
+
+const READ: &str = "
+pub $SNAKE_is_read : $PREMISES$SNAKE_codec.is_decodable ≡ true
+$SNAKE_is_read $GIVEN = rw ($EACH) refl
+";
 
 const CODEC: &str = "
 abbrev pub $SNAKE_codec : Codec $NAME

@@ -5,6 +5,7 @@ use crate::brought::{cited_lines, declared_lines, text_cited, text_lines};
 use crate::codec_laws::codec_laws;
 use crate::definitions::definitions;
 use crate::formats::{before, has_several, has_text};
+use crate::generic::with_parameters;
 use crate::nested::{Nested, counted_in, nested_of};
 use crate::others::{BIN, Other, add_others_of, append_cited, append_codecs_of, append_others};
 use crate::text_codec::{TextTerms, text_codecs};
@@ -107,6 +108,9 @@ pub(crate) fn append_definitions<'a>(
         append_codecs_of(alloc, file.module, &others, &BIN, specs)?;
         text.push_str(bin_codecs(alloc, &members)?.as_str())?;
     }
+    if let [nested] = members.as_slice() {
+        text = with_parameters(alloc, nested, "bin", text)?;
+    }
     let mut brought = String::new(alloc);
     for nested in &members {
         brought.push_str(declared_lines(alloc, file.module, nested)?.as_str())?;
@@ -130,6 +134,7 @@ pub(crate) fn append_laws<'a>(
     let has_bin = attributes.bin.is_used();
     for nested in &members {
         let text = codec_laws(alloc, nested, has_bin)?;
+        let text = with_parameters(alloc, nested, "bin", text)?;
         proofs.say(text, cited_lines(alloc, file.module, nested, has_bin)?)?;
     }
     append_others(alloc, file.module, &others, proofs)?;
@@ -150,7 +155,10 @@ pub(crate) fn append_text_definitions<'a>(
     let members = nested_members(alloc, source, cycle, false)?;
     let others = others_of(alloc, file.module, source, &members)?;
     append_codecs_of(alloc, file.module, &others, &format.said, specs)?;
-    let text = text_codecs(alloc, &members, format, before)?;
+    let mut text = text_codecs(alloc, &members, format, before)?;
+    if let [nested] = members.as_slice() {
+        text = with_parameters(alloc, nested, format.name, text)?;
+    }
     let mut brought = String::new(alloc);
     for nested in &members {
         brought.push_str(text_lines(alloc, file.module, nested, before)?.as_str())?;
@@ -186,6 +194,7 @@ pub(crate) fn append_text_laws<'a>(
     let others = others_of(alloc, file.module, source, &members)?;
     for nested in &members {
         let text = text_laws(alloc, nested, format, is_first)?;
+        let text = with_parameters(alloc, nested, format.name, text)?;
         let brought = text_cited(alloc, file.module, nested, format, is_first)?;
         proofs.say(text, brought)?;
     }

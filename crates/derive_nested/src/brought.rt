@@ -1,6 +1,7 @@
 //! What a file of definitions or laws brings in of the types that it is for.
 
 use crate::nested::Nested;
+use crate::parameters::coded_by;
 use crate::text_codec::TextTerms;
 use crate::text_layers::content_name;
 use derive_syntax::{Case, Holes, codecs_name, crate_of};
@@ -22,6 +23,16 @@ $GROUP.TheOpen.{$NAME-F}
 $GROUP.TheViews.{out-$NAME}
 $GROUP.TheFolds.{map-$NAME, fold-$NAME, fold_out-$NAME}
 ";
+
+/// The line that brings in how a value of a type is opened.
+pub(crate) fn declared_view(
+    alloc: Global,
+    module: &str,
+    nested: &Nested<'_>,
+) -> Result<String, AllocError> {
+    let (name, first) = (nested.names.of.as_str(), nested.members.first());
+    format!(in alloc; "use Rattle.{module}.{first}.TheViews.{{out-{name}}}\n")
+}
 
 /// Puts what begins a line that brings in what is declared of a type, and of all types that contain
 /// each other: that stands in the module of the first.
@@ -50,7 +61,8 @@ pub(crate) fn text_lines(
     let several = match before {
         _ if nested.is_around() => String::new(alloc),
         Some("bin") => {
-            format!(in alloc; "{specs}.{{{snake}_step, {snake}_nested, {snake}_codec}}\n")?
+            let weaker = weaker_lines(alloc, nested, (specs.as_str(), "bin"))?;
+            format!(in alloc; "{specs}.{{{snake}_step, {snake}_nested, {snake}_codec}}\n{weaker}")?
         }
         Some(text) => earlier_lines(alloc, module, nested, text)?,
         None => String::new(alloc),
@@ -88,6 +100,8 @@ fn earlier_lines(
     let specs = specs_of(alloc, module)?;
     let file = codecs_name_in(alloc, module, earlier)?;
     let mut holes = nested.holes(alloc);
+    let weaker = weaker_lines(alloc, nested, (specs.as_str(), earlier))?;
+    holes.put("WEAKER", weaker.as_str());
     holes.put("SPECS", specs.as_str());
     holes.put("LIBRARY", library);
     holes.put("FILE", file.as_str());
@@ -97,7 +111,27 @@ fn earlier_lines(
 
 const EARLIER_LINES: &str = "$SPECS.{$SNAKE_step}
 use Rattle.$LIBRARY.specs.$FILE.{$SNAKE_$EARLIER_nested, $SNAKE_$EARLIER}
-";
+$WEAKER";
+
+/// The lines that bring in by what a type with parameters agrees with an earlier format.
+fn weaker_lines(
+    alloc: Global,
+    nested: &Nested<'_>,
+    (specs, earlier): (&str, &str),
+) -> Result<String, AllocError> {
+    if !nested.is_generic() {
+        return Ok(String::new(alloc));
+    }
+    let codecs = match earlier {
+        "bin" => "nano_bin_bytes",
+        "json" => "nano_json",
+        _ => "nano_ron",
+    };
+    let (snake, of) = (nested.names.snake.as_str(), coded_by(earlier).of);
+    format!(in alloc;
+        "{specs}.{{{snake}_weaker}}\nuse Rattle.{codecs}.specs.Codec.{{Codec as {of}}}\n"
+    )
+}
 
 /// What begins a line that brings in definitions of the types of a module.
 fn specs_of(alloc: Global, module: &str) -> Result<String, AllocError> {

@@ -3,7 +3,7 @@
 use crate::imports::Known;
 
 /// Those that every format cites.
-pub(crate) const SHARED: [Known; 20] = [
+pub(crate) const SHARED: [Known; 23] = [
     Known {
         module: "std.specs.Prelude",
         names: &[
@@ -122,6 +122,14 @@ pub(crate) const SHARED: [Known; 20] = [
         ],
     },
     Known {
+        module: "nano_meaning.proofs.MeaningLaws",
+        names: &["list_weaker", "option_weaker", "pair_weaker"],
+    },
+    Known {
+        module: "nano_meaning.proofs.TablesLaws",
+        names: &["map_weaker"],
+    },
+    Known {
         module: "nano_levels.specs.Layers",
         names: &["greatest"],
     },
@@ -139,11 +147,15 @@ pub(crate) const SHARED: [Known; 20] = [
     },
     Known {
         module: "nano_schema_levels.specs.LegalLevels",
-        names: &["LegalStep"],
+        names: &["IsWeaker", "LegalStep"],
     },
     Known {
         module: "nano_schema_levels.specs.Depths",
         names: &["held_depth"],
+    },
+    Known {
+        module: "nano_schema_levels.proofs.LegalLevelsLaws",
+        names: &["remains"],
     },
     Known {
         module: "nano_schema_levels.proofs.StepsLaws",

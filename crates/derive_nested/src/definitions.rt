@@ -3,6 +3,7 @@
 
 use crate::held::Held;
 use crate::nested::Nested;
+use crate::weaker::weaker;
 use crate::wrapped::atom;
 use std::alloc::{AllocError, Global};
 
@@ -27,6 +28,9 @@ pub(crate) fn definitions(
     for nested in members {
         if has_several {
             text.push_str(legal(alloc, nested)?.as_str())?;
+        }
+        if has_several && nested.is_generic() {
+            text.push_str(weaker(alloc, nested)?.as_str())?;
         }
     }
     Ok(text)

@@ -8,14 +8,16 @@ use crate::ron_rows::calls_of;
 use derive_syntax::Holes;
 use std::alloc::{AllocError, Global};
 
-/// So many fields are found by the search.
-const FOUND: usize = 5;
+/// Of so many fields the search finds the steps of a type. With parameters it finds few.
+fn found(nested: &Nested<'_>) -> usize {
+    if nested.is_generic() { 1 } else { 5 }
+}
 
 /// Whether what writes a struct or a variant with named fields has steps that take an answer.
 fn has_late_steps(members: &[Nested<'_>]) -> bool {
     for nested in members {
         for held in &nested.contents {
-            if held.has_fields && held.leaves.len() > FOUND {
+            if held.has_fields && held.leaves.len() > found(nested) {
                 return true;
             }
         }
@@ -58,7 +60,8 @@ pub(crate) fn late_json_answers(
 ) -> Result<String, AllocError> {
     let function = format!(in alloc; "{}JsonWriter::{append}", nested.names.of)?;
     let steps = steps_of(alloc, held)?;
-    late_answers(alloc, function.as_str(), &["st_pre"], &steps)
+    let function = (function.as_str(), found(nested));
+    late_answers(alloc, function, &["st_pre"], &steps)
 }
 
 /// The same of the writer of RON, which writes the name of a variant before its fields.
@@ -75,19 +78,21 @@ pub(crate) fn late_ron_answers(
     } else {
         &["st_pre"]
     };
-    late_answers(alloc, function.as_str(), before, &calls)
+    let function = (function.as_str(), found(nested));
+    late_answers(alloc, function, before, &calls)
 }
 
-/// The answers for the steps of a function that fail late: for fields that are appended by these
-/// steps, after those that come before all fields, and for the bracket after them.
+/// The answers for the steps of a function that fail late, of which the search finds so many: for
+/// fields that are appended by these steps, after those that come before all fields, and for the
+/// bracket after them.
 fn late_answers(
     alloc: Global,
-    function: &str,
+    (function, found): (&str, usize),
     before: &[&str],
     fields: &[String],
 ) -> Result<String, AllocError> {
     let mut answers = String::new(alloc);
-    if fields.len() <= FOUND {
+    if fields.len() <= found {
         return Ok(answers);
     }
     let mut done = String::new(alloc);
@@ -96,7 +101,7 @@ fn late_answers(
         pass(alloc, *step, &mut done, &mut closing)?;
     }
     for (i, step) in fields.iter().enumerate() {
-        if i >= FOUND {
+        if i >= found {
             let answer = late(alloc, function, step.as_str(), (&done, &closing))?;
             answers.push_str(answer.as_str())?;
         }

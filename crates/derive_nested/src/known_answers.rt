@@ -5,6 +5,7 @@ use crate::answers::{Answers, Goals, HEAD, Place, goals_of};
 use crate::codec_laws::law_end;
 use crate::definitions::equation;
 use crate::held::Held;
+use crate::imports::{Known, imports};
 use crate::nested::Nested;
 use crate::wrapped::atom;
 use std::alloc::{AllocError, Global};
@@ -29,6 +30,8 @@ pub(crate) fn known_answers(
     holes.put("LIBRARY", place.library);
     holes.put("FILE", file);
     holes.put("CITED", cited.as_str());
+    let brought = imports(alloc, answers.as_str(), &[&AGREED])?;
+    holes.put("BROUGHT", brought.as_str());
     holes.put("GOALS", module.as_str());
     holes.put("ANSWERS", answers.as_str());
     Ok(Answers {
@@ -39,9 +42,48 @@ pub(crate) fn known_answers(
 
 const KNOWN_ANSWERS: &str = "\
 $HEAD
-use Rattle.$LIBRARY.proofs.$FILELaws.{$CITED}
+$BROUGHTuse Rattle.$LIBRARY.proofs.$FILELaws.{$CITED}
 use $GOALS as goal
 $ANSWERS";
+
+/// By what a part with a parameter is legal.
+pub(crate) const AGREED: [Known; 5] = [
+    Known {
+        module: "std.specs.Prelude",
+        names: &["string_bytes", "string_cmp"],
+    },
+    Known {
+        module: "std.specs.Ordering",
+        names: &["nat_cmp", "int_cmp", "bool_cmp"],
+    },
+    Known {
+        module: "nano_value.specs.Meaning",
+        names: &[
+            "truth",
+            "number",
+            "whole",
+            "text",
+            "LegalUnsigned",
+            "LegalSigned",
+            "LegalTruth",
+            "LegalText",
+        ],
+    },
+    Known {
+        module: "nano_meaning.proofs.AgreesLaws",
+        names: &[
+            "agreed",
+            "list_agrees",
+            "option_agrees",
+            "ordered_map_agrees",
+            "seen_agrees",
+        ],
+    },
+    Known {
+        module: "nano_schema_levels.proofs.LegalLevelsLaws",
+        names: &["legal_in_words"],
+    },
+];
 
 /// The names of the laws of the variants, and the answers by them.
 fn answered(
@@ -75,7 +117,7 @@ fn answer(
     let mut calls = String::new(alloc);
     for i in 0..held.leaves.len() {
         let call = call_at(alloc, variant, is_first, i)?;
-        calls.push_str(format!(in alloc; " c.{call}.ensures")?.as_str())?;
+        calls.push_str(legal_by(alloc, held, i, call.as_str())?.as_str())?;
     }
     let used = atom(alloc, format!(in alloc; "{law}{values}{calls}")?.as_str())?;
     let goal = format!(in alloc; "{prefix}returns-in-{variant}")?;
@@ -87,6 +129,21 @@ fn answer(
 pub {goal} : goal.{goal}
 {answer}"
     )
+}
+
+/// That a part of a variant at its place is legal, by a call, after a space.
+fn legal_by(alloc: Global, held: &Held<'_>, i: usize, call: &str) -> Result<String, AllocError> {
+    let variant = held.name.as_str();
+    let (Some(leaf), Some(name)) = (held.leaves.get(i), held.called.get(i)) else {
+        return Ok(String::new(alloc));
+    };
+    match &leaf.part.agrees {
+        Some(agrees) => {
+            let agrees = atom(alloc, agrees.as_str())?;
+            format!(in alloc; " (legal_in_words {agrees} c.in-{variant}.{name} c.{call}.ensures)")
+        }
+        None => format!(in alloc; " c.{call}.ensures"),
+    }
 }
 
 /// The name of a call for the part of a variant at this place. The first call of the function has

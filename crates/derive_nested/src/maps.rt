@@ -1,7 +1,7 @@
 //! What is said of an ordered map, from what is said of its keys and its values.
 
 use crate::part::{Names, Part, plain_part};
-use crate::wrapped::{at, atom, function, layered, steps};
+use crate::wrapped::{at, atom, function, layered, seen_agreeing, steps};
 use std::alloc::{AllocError, Global};
 
 /// What is said of the keys of a map, as ghost terms.
@@ -99,7 +99,28 @@ pub(crate) fn mapped(
         is_cased: false,
         means_same: mapped_same(alloc, &keys, part)?,
         depth_same: steps(alloc, within, "list_depth _ _ _", items, &part.depth_same)?,
+        weaker: format!(in alloc;
+            "map_weaker _ _ _ _ (remains {}) {}",
+            keys.legal,
+            atom(alloc, part.weaker.as_str())?
+        )?,
+        agrees: mapped_agrees(alloc, &keys, &part.agrees)?,
     })
+}
+
+/// That the codec of a map agrees with it, if that of its values does.
+fn mapped_agrees(
+    alloc: Global,
+    keys: &Keys,
+    agrees: &Option<String>,
+) -> Result<Option<String>, AllocError> {
+    let of = format!(in alloc;
+        "ordered_map_agrees (agreed {{means = {}}} {{legal = {}}}) ",
+        keys.means, keys.legal
+    )?;
+    let after = format!(in alloc; " {}", keys.order.compare)?;
+    let map = layered(alloc, of.as_str(), agrees, after.as_str())?;
+    seen_agreeing(alloc, "", &map, "(λ x. x.entries)")
 }
 
 /// The codec of a map.

@@ -2,6 +2,7 @@
 
 use crate::cycle::{Members, members_of, names_of};
 use crate::held::{Held, struct_held, variant_held};
+use crate::parameters::{Format, first_of};
 use crate::part::Names;
 use crate::wrapped::{at, atom};
 use derive_syntax::{Attributes, Cycle, Definition, Fault, Holes, Shape, Source};
@@ -22,6 +23,10 @@ pub(crate) struct Nested<'a> {
     pub(crate) too_deep: &'static str,
     /// What its variants hold, or what it has as a struct.
     pub(crate) contents: Vec<Held<'a>>,
+    /// Its type parameters.
+    pub(crate) parameters: Vec<Names>,
+    /// Its first format.
+    pub(crate) first: Format,
 }
 
 /// The cycle of a definition.
@@ -72,6 +77,10 @@ pub(crate) fn nested_of<'a>(
             contents.push(variant_held(alloc, &cycle, variant)?)?;
         }
     }
+    let mut parameters = Vec::new(alloc);
+    for parameter in &cycle.parameters {
+        parameters.push(names_of(alloc, parameter.text)?)?;
+    }
     let counted = counted_in(source, &cycle).unwrap_or(definition.attributes);
     let too_deep = match counted.levels {
         Some(_limit) => "too_many_levels",
@@ -84,6 +93,8 @@ pub(crate) fn nested_of<'a>(
         limit: counted.level_limit(),
         too_deep,
         contents,
+        parameters,
+        first: first_of(counted),
     })
 }
 

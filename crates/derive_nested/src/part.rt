@@ -1,6 +1,7 @@
 //! What is said of a part of a type that contains itself, as ghost terms. Where a term speaks of
 //! values of the type itself or of the part's value, it has a hole, which is a dollar sign.
 
+use crate::wrapped::atom;
 use derive_syntax::{Case, Core};
 use std::alloc::{AllocError, Global};
 
@@ -30,6 +31,11 @@ pub(crate) struct Part {
     pub(crate) means_same: Option<String>,
     /// That its depth is that of the layer, if it takes a proof.
     pub(crate) depth_same: Option<String>,
+    /// That what is legal remains so, where what is legal for the type itself and for its parameters
+    /// does.
+    pub(crate) weaker: String,
+    /// That its codec agrees with its values, if it has a parameter of the type.
+    pub(crate) agrees: Option<String>,
 }
 
 /// The names of what is said of a type.
@@ -85,6 +91,7 @@ pub(crate) fn core_part(alloc: Global, names: &Names, core: Core<'_>) -> Result<
         Core::Around(name) => around(alloc, name),
         Core::Plain(name) => plain_part(alloc, name),
         Core::Other(name) => user_part(alloc, name),
+        Core::Parameter(name) => parameter_part(alloc, name),
     }
 }
 
@@ -98,6 +105,15 @@ fn user_part(alloc: Global, name: &str) -> Result<Part, AllocError> {
         alloc,
         (name, codec.as_str(), means.as_str(), legal.as_str()),
     )
+}
+
+/// What is said of a type parameter, by the codec that it has.
+fn parameter_part(alloc: Global, name: &str) -> Result<Part, AllocError> {
+    let mut part = user_part(alloc, name)?;
+    let snake = Case::Snake.of_variant(alloc, name)?;
+    part.agrees = Some(format!(in alloc; "{snake}_agrees")?);
+    part.weaker = snake;
+    Ok(part)
 }
 
 /// What is said of a type that contains the type itself and stands in it: it is a layer around its
@@ -116,6 +132,8 @@ fn around(alloc: Global, name: &str) -> Result<Part, AllocError> {
         is_cased: false,
         means_same: Some(format!(in alloc; "{snake}_means_is $")?),
         depth_same: Some(format!(in alloc; "{snake}_depth_is $")?),
+        weaker: String::new(alloc),
+        agrees: None,
     })
 }
 
@@ -134,6 +152,8 @@ fn itself(alloc: Global, names: &Names) -> Result<Part, AllocError> {
         is_cased: false,
         means_same: None,
         depth_same: None,
+        weaker: String::from_str(alloc, "x")?,
+        agrees: None,
     })
 }
 
@@ -169,5 +189,7 @@ fn other_part(
         is_cased: false,
         means_same: None,
         depth_same: None,
+        weaker: format!(in alloc; "remains {}", atom(alloc, legal)?)?,
+        agrees: None,
     })
 }

@@ -65,6 +65,8 @@ fn row_of_one(alloc: Global, part: &Part, value: &str, legal: &str) -> Result<Ro
             is_cased: false,
             means_same: None,
             depth_same: None,
+            weaker: part.weaker.clone()?,
+            agrees: None,
         },
         value: String::from_str(alloc, value)?,
         written: format!(in alloc; "{codec}.canonical.written {value}")?,
@@ -104,6 +106,12 @@ fn both(alloc: Global, first: &Row, second: &Row) -> Result<Row, AllocError> {
             is_cased: false,
             means_same: None,
             depth_same: None,
+            weaker: format!(in alloc;
+                "pair_weaker _ _ _ _ {} {}",
+                atom(alloc, a.weaker.as_str())?,
+                atom(alloc, b.weaker.as_str())?
+            )?,
+            agrees: None,
         },
         value: format!(in alloc; "({}, {})", first.value, second.value)?,
         written: format!(in alloc; "({}\n    ++ {})", first.written, second.written)?,
@@ -129,7 +137,7 @@ pub(crate) fn layer_of(alloc: Global, part: &Part) -> Result<String, AllocError>
         Some(layer) => layer.clone(),
         None => {
             let codec = atom(alloc, part.codec.as_str())?;
-            format!(in alloc; "other_layer {codec} refl")
+            format!(in alloc; "other_layer {codec}")
         }
     }
 }
@@ -142,7 +150,7 @@ fn both_layers(alloc: Global, a: &Part, b: &Part) -> Result<Option<String>, Allo
         (false, false) => Ok(None),
         (false, true) => {
             let codec = atom(alloc, a.codec.as_str())?;
-            Ok(Some(format!(in alloc; "next_layer {codec} refl {second}")?))
+            Ok(Some(format!(in alloc; "next_layer {codec} {second}")?))
         }
         _ => Ok(Some(format!(in alloc; "pair_layer {first} {second}")?)),
     }

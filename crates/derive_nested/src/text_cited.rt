@@ -41,7 +41,12 @@ pub(crate) const TEXTS: [Known; 13] = [
     },
     Known {
         module: "nano_schema_levels.proofs.LegalLevelsLaws",
-        names: &["agree_through", "legal_as", "nested_agrees"],
+        names: &[
+            "agree_by_steps",
+            "agree_through",
+            "legal_as",
+            "nested_agrees",
+        ],
     },
     Known {
         module: "nano_schema_levels.proofs.MapLayersLaws",

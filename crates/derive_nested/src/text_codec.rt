@@ -3,6 +3,7 @@
 
 use crate::coded::{Coded, nested_record};
 use crate::definitions::{equation, root_first};
+use crate::generic_agreement::agreement;
 use crate::held::Held;
 use crate::nested::Nested;
 use crate::others::Said;
@@ -221,6 +222,11 @@ fn codec(
     let Some(before) = before else {
         return holes.fill(ALONE);
     };
+    if nested.is_generic() {
+        let mut text = holes.fill(ALONE)?;
+        text.push_str(agreement(alloc, nested, format, before)?.as_str())?;
+        return Ok(text);
+    }
     let (snake, limit) = (nested.names.snake.as_str(), nested.limit);
     let (codec, agrees) = if before == "bin" {
         (

@@ -42,6 +42,8 @@ fn boxed(alloc: Global, names: &Names, part: &Part) -> Result<Part, AllocError> 
         is_cased: false,
         means_same: held_proof(alloc, &part.means_same, "$.value")?,
         depth_same: held_proof(alloc, &part.depth_same, "$.value")?,
+        weaker: part.weaker.clone()?,
+        agrees: seen_agreeing(alloc, "", &part.agrees, "(λ x. x.value)")?,
     })
 }
 
@@ -61,6 +63,23 @@ pub(crate) fn held_proof(
 fn some_proof(alloc: Global, proof: &Option<String>) -> Result<Option<String>, AllocError> {
     match proof {
         Some(proof) => Ok(Some(format!(in alloc; "ap (λ m. optional (Some m)) ({proof})")?)),
+        None => Ok(None),
+    }
+}
+
+/// That a codec agrees with values that are seen as others, if that of the others does: after what
+/// says so of a collection of them.
+pub(crate) fn seen_agreeing(
+    alloc: Global,
+    of: &str,
+    agrees: &Option<String>,
+    view: &str,
+) -> Result<Option<String>, AllocError> {
+    match layered(alloc, of, agrees, "")? {
+        Some(agrees) => {
+            let agrees = atom(alloc, agrees.as_str())?;
+            Ok(Some(format!(in alloc; "seen_agrees {agrees} {view}")?))
+        }
         None => Ok(None),
     }
 }
@@ -90,6 +109,8 @@ fn optional(alloc: Global, part: &Part) -> Result<Part, AllocError> {
         is_cased: is_within,
         means_same: some_proof(alloc, &part.means_same)?,
         depth_same: held_proof(alloc, &part.depth_same, "$")?,
+        weaker: format!(in alloc; "option_weaker _ _ {}", atom(alloc, part.weaker.as_str())?)?,
+        agrees: layered(alloc, "option_agrees ", &part.agrees, "")?,
     })
 }
 
@@ -124,6 +145,8 @@ fn listed(alloc: Global, names: &Names, part: &Part) -> Result<Part, AllocError>
         is_cased: false,
         means_same: steps(alloc, mapped, "list_means _ _ _", ITEMS, means_same)?,
         depth_same: steps(alloc, within, "list_depth _ _ _", ITEMS, depth_same)?,
+        weaker: format!(in alloc; "list_weaker _ _ {}", atom(alloc, part.weaker.as_str())?)?,
+        agrees: seen_agreeing(alloc, "list_agrees ", &part.agrees, "(λ x. x.items)")?,
     })
 }
 

@@ -15,6 +15,8 @@ pub struct Cycle<'a> {
     /// The one that each way from a type back to itself leads through. What is read is counted in
     /// its levels; the others are structs, each of them a layer around values of it.
     pub root: Token<'a>,
+    /// The type parameters of a type that contains itself. Several types have none.
+    pub parameters: Vec<Token<'a>>,
 }
 
 impl Cycle<'_> {
@@ -53,10 +55,16 @@ impl<'a> Source<'a> {
             return Err(way_back(definition, &names));
         };
         let inward = inward(alloc, self, &names, root)?;
+        let parameters = if names.len() == 1 {
+            definition.parameters.clone()?
+        } else {
+            Vec::new(alloc)
+        };
         Ok(Some(Cycle {
             names,
             inward,
             root,
+            parameters,
         }))
     }
 

@@ -30,6 +30,8 @@ pub enum Core<'a> {
     Plain(&'a str),
     /// Another user-defined type, by its name.
     Other(&'a str),
+    /// A type parameter, by its name.
+    Parameter(&'a str),
 }
 
 /// A part of a type that contains itself.
@@ -111,6 +113,8 @@ const NO_PART: &str = "stands in a type that contains itself: a part of one is a
     `()`, a `String`, the type itself or another one by its name, as it is or within `Vec`, \
     `Option`, `Box` and `BTreeMap`";
 
+const NO_SAME: &str = "stands in itself with other types in place of its type parameters";
+
 const NO_KEY: &str = "is no key of a map in a type that contains itself: such a key is a `String`, \
     `bool` or an integer of at most 64 bits";
 
@@ -140,7 +144,12 @@ pub fn nested_part<'a>(
         inner = held;
     }
     let Some(core) = core_of(cycle, inner) else {
-        return Err(fault_at(inner, NO_PART));
+        let words = if is_other_itself(cycle, inner) {
+            NO_SAME
+        } else {
+            NO_PART
+        };
+        return Err(fault_at(inner, words));
     };
     let part = NestedPart { holders, core };
     let held = part.holders.get(1..).unwrap_or(&[]);
@@ -207,12 +216,47 @@ fn map_of<'a>(between: Type<'a>) -> Result<Option<(Holder<'a>, Type<'a>)>, Fault
 /// What a type is that stands in no other: one of these types, one of Rust's, or another one.
 fn core_of<'a>(cycle: &Cycle<'a>, of: Type<'a>) -> Option<Core<'a>> {
     match of.0 {
-        [word] if cycle.is_root(*word) => Some(Core::Itself),
-        [word] if word.is_among(&cycle.names) => Some(Core::Around(word.text)),
+        [word, arguments @ ..]
+            if cycle.is_root(*word) && are_parameters(arguments, &cycle.parameters) => {
+            Some(Core::Itself)
+        }
+        [word, ..] if cycle.is_root(*word) => None,
+        [word] if word.is_among(&cycle.parameters) => Some(Core::Parameter(word.text)),
+        [word] if word.is_among(&cycle.names) && !cycle.is_one() => Some(Core::Around(word.text)),
         [word] if PLAIN.contains(&word.text) => Some(Core::Plain(word.text)),
         [word] if word.kind == TokenKind::Word => Some(Core::Other(word.text)),
         [open, close] if open.is("(") && close.is(")") => Some(Core::Plain("()")),
         _ => None,
+    }
+}
+
+/// Whether these tokens are type parameters in their order: between angle brackets, with a comma
+/// after each but the last one; or nothing, where there are none.
+fn are_parameters<'a>(arguments: &[Token<'a>], parameters: &[Token<'a>]) -> bool {
+    let mut rest = arguments;
+    for (i, parameter) in parameters.iter().enumerate() {
+        let before = if i == 0 { "<" } else { "," };
+        match rest {
+            [punctuator, word, later @ ..]
+                if punctuator.is(before) && word.text == parameter.text => {
+                rest = later;
+            }
+            _ => return false,
+        }
+    }
+    match rest {
+        [] => parameters.is_empty(),
+        [close] => close.is(">") && !parameters.is_empty(),
+        [comma, close] => comma.is(",") && close.is(">") && !parameters.is_empty(),
+        _ => false,
+    }
+}
+
+/// Whether a type is the one that contains itself, with other arguments than its parameters.
+fn is_other_itself<'a>(cycle: &Cycle<'a>, of: Type<'a>) -> bool {
+    match of.0.first() {
+        Some(word) => cycle.is_root(*word),
+        None => false,
     }
 }
 

@@ -9,6 +9,7 @@ mod nested_json_contents;
 mod nested_json_fields;
 mod nested_json_variants;
 mod nested_names;
+mod nested_parameters;
 mod nested_ron;
 mod nested_ron_contents;
 mod nested_ron_steps;

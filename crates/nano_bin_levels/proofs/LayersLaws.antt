@@ -1,12 +1,12 @@
 -- What is proved of Layers: the type itself, another type, a box and a pair.
-use Rattle.std.specs.Prelude.{◌≡◌, suc, refl, ◌++◌}
+use Rattle.std.specs.Prelude.{◌≡◌, ◌&&◌, suc, refl, ◌++◌}
 use Rattle.std.specs.Prelude.{true}
 use Rattle.std.proofs.Common.{sym, subst, ap, arith}
 use Rattle.nano_value.specs.Meaning.{Meaning, paired, pair_map}
 use Rattle.nano_meaning.proofs.MeaningLaws.{both_injective}
 use Rattle.nano_bin_bytes.specs.Codec.{Codec}
 use Rattle.nano_bin_bytes.specs.BaseCodecs.{codec_as}
-use Rattle.nano_bin_bytes.proofs.CodecLaws.{both_are_read}
+use Rattle.nano_bin_bytes.proofs.CodecLaws.{both_are_read, both_read}
 use Rattle.nano_bin.specs.ContainerCodecs.{pair_codec}
 use Rattle.nano_bin_levels.specs.Layers.{Layer}
 
@@ -26,12 +26,13 @@ itself_layer = record {
   legal_same = λ f h m x w. w;
   rises = λ f h w. w;
   gathers = λ c rises h reached. reached;
-  is_read = λ f e. e;
+  reads = true;
+  is_read = λ r f e. e;
 }
 
--- a type that is read
-abbrev pub other_layer : {A B : Type 0} (k : Codec B) → k.is_decodable ≡ true → Layer A B
-other_layer k read = record {
+-- another type, which is read or not
+abbrev pub other_layer : {A B : Type 0} → Codec B → Layer A B
+other_layer k = record {
   codec = λ f. k;
   All = λ P x. Unit {0};
   means = λ m. k.canonical.means;
@@ -44,7 +45,8 @@ other_layer k read = record {
   legal_same = λ f h m x w s. s;
   rises = λ f h w bytes m e. e;
   gathers = λ c rises h reached bytes m e. (0, e);
-  is_read = λ f e. read;
+  reads = k.is_decodable;
+  is_read = λ r f e. r;
 }
 
 -- values that are seen as others: what is in a box, or the fields of a struct
@@ -62,12 +64,13 @@ seen_layer view p = record {
   legal_same = λ f h m x w s. p.legal_same f h m (view x) w s;
   rises = p.rises;
   gathers = p.gathers;
+  reads = p.reads;
   is_read = p.is_read;
 }
 
 -- ---- another type, and after it what is inside
 
-module _ {K A B : Type 0} (k : Codec K) (read : k.is_decodable ≡ true) (p : Layer A B) where
+module _ {K A B : Type 0} (k : Codec K) (p : Layer A B) where
   abbrev pub both_mean : (A → Meaning) → K × B → Meaning
   both_mean m x = paired (pair_map k.canonical.means (p.means m) x)
 
@@ -120,5 +123,8 @@ module _ {K A B : Type 0} (k : Codec K) (read : k.is_decodable ≡ true) (p : La
             is = e.is;
           },
         );
-    is_read = λ f e. both_are_read read (p.is_read f e);
+    reads = k.is_decodable && p.reads;
+    is_read = λ r f e.
+        let each = both_read k.is_decodable p.reads r in
+        both_are_read each.0 (p.is_read each.1 f e);
   }

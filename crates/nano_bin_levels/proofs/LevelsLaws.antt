@@ -72,10 +72,10 @@ module _ {A : Type 0} (l : Nested A) where
       (l.layer.legal_same (level n) (level k) l.means (l.view x) each
       (subst (l.layer.codec (level n)).encoding.legal (l.means_is x) h))
 
-  level_read : (n : ℕ) → (level n).is_decodable ≡ true
+  level_read : l.layer.reads ≡ true → (n : ℕ) → (level n).is_decodable ≡ true
   unfolding level
-  level_read zero = refl
-  level_read (suc n) = l.layer.is_read (level n) (level_read n)
+  level_read read zero = refl
+  level_read read (suc n) = l.layer.is_read read (level n) (level_read read n)
 
   -- ---- what a level encodes, each above it encodes
 
@@ -127,13 +127,14 @@ module _ {A : Type 0} (l : Nested A) where
         (climbs level level_rises h.0 j.0 b y j.1) e;
   }
 
-  pub reads_back : (x : A) → Legal (l.means x) → Encodes (written x) (l.means x)
-  reads_back x h =
+  pub reads_back : l.layer.reads ≡ true → (x : A) → Legal (l.means x)
+      → Encodes (written x) (l.means x)
+  reads_back read x h =
       let n = suc (l.depth x) in
       let below : l.depth x < n = omega arith in
       let same = level_means n x below in
       let legal = subst (level n).encoding.legal (sym same) (level_legal h.0 n x h.1 below) in
-      let back = (level n).reads_back (level_read n) x legal in (
+      let back = (level n).reads_back (level_read read n) x legal in (
         n,
         subst (λ bytes. (level n).encoding.encodes bytes (l.means x)) (written_at n x below)
             (subst (λ m. (level n).encoding.encodes ((level n).canonical.written x) m) same back),
@@ -143,8 +144,8 @@ module _ {A : Type 0} (l : Nested A) where
   nested_codec = record {
     canonical = record { means = l.means; written = written; same_written = same_written };
     encoding = record { legal = Legal; encodes = Encodes; laws = nested_laws };
-    is_decodable = true;
-    reads_back = λ is. reads_back;
+    is_decodable = l.layer.reads;
+    reads_back = reads_back;
   }
 
   -- ---- a value by the values inside

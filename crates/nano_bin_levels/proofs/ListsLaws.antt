@@ -121,5 +121,6 @@ module _ {A B : Type 0} (p : Layer A B) where
             is = e.is;
           },
         );
-    is_read = λ f e. p.is_read f e;
+    reads = p.reads;
+    is_read = λ r f e. p.is_read r f e;
   }

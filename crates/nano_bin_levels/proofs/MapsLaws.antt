@@ -53,7 +53,7 @@ module _ {K A B : Type 0} (o : MeaningOrder) (k : Codec K) (read : k.is_decodabl
     (p : Layer A B) where
   -- a key, and a value
   abbrev entry_layer : Layer A (K × B)
-  entry_layer = next_layer k read p
+  entry_layer = next_layer k p
 
   abbrev by_keys : K → K → Ordering
   by_keys = by_meaning k.canonical.means o
@@ -204,7 +204,8 @@ module _ {K A B : Type 0} (o : MeaningOrder) (k : Codec K) (read : k.is_decodabl
     legal_same = table_legal;
     rises = map_rises;
     gathers = map_gathers;
-    is_read = λ f e. both_are_read read (p.is_read f e);
+    reads = p.reads;
+    is_read = λ r f e. both_are_read read (p.is_read r f e);
   }
 
   -- ---- a map that holds its entries in order
@@ -244,5 +245,6 @@ module _ {K A B : Type 0} (o : MeaningOrder) (k : Codec K) (read : k.is_decodabl
       legal_same = ordered_legal;
       rises = map_rises;
       gathers = map_gathers;
-      is_read = λ f e. both_are_read read (p.is_read f e);
+      reads = p.reads;
+      is_read = λ r f e. both_are_read read (p.is_read r f e);
     }

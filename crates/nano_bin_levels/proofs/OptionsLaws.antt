@@ -114,5 +114,6 @@ module _ {A B : Type 0} (p : Layer A B) where
     gathers = λ c rises h reached bytes m e.
         let found = some_gathers c rises h reached bytes e.part e.has in
         (found.0, record { part = e.part; has = found.1; is = e.is });
-    is_read = λ f e. p.is_read f e;
+    reads = p.reads;
+    is_read = λ r f e. p.is_read r f e;
   }

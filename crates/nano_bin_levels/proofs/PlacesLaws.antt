@@ -101,6 +101,7 @@ module _ (tag : ℕ) (small : tag < 65536) where
             content = found.1;
           },
         );
+    reads = p.reads;
     is_read = p.is_read;
   }
 
@@ -211,7 +212,8 @@ module _ {V : Type 0} {Fields : ℕ → Type 0} (place : V → ℕ) (fields : (v
           }
 
     module _ {A : Type 0} (layers : (place : ℕ) → Layer A (Fields place)) (place_of : ℕ → ℕ)
-        (are : (f : Codec A) → AreTagged place_of (codecs_at layers f)) where
+        (are : (f : Codec A) → AreTagged place_of (codecs_at layers f))
+        (are_read : (place : ℕ) → (layers place).reads ≡ true) where
       abbrev pub places_codec : (f : Codec A) → Codec V
       places_codec f = record {
         canonical = record {
@@ -226,7 +228,7 @@ module _ {V : Type 0} {Fields : ℕ → Type 0} (place : V → ℕ) (fields : (v
         };
         is_decodable = f.is_decodable;
         reads_back = λ is.
-            place_reads_back (codecs_at layers f) (λ place. (layers place).is_read f is);
+            place_reads_back (codecs_at layers f) (λ place. (layers place).is_read (are_read place) f is);
       }
 
       abbrev pub places_layer : Layer A V
@@ -261,5 +263,6 @@ module _ {V : Type 0} {Fields : ℕ → Type 0} (place : V → ℕ) (fields : (v
               found.0,
               record { place = e.place; content = e.content; encodes = found.1; is = e.is },
             );
-        is_read = λ f e. e;
+        reads = true;
+        is_read = λ r f e. e;
       }

@@ -1,5 +1,5 @@
 -- A type that contains itself as bytes, by one layer of it.
-use Rattle.std.specs.Prelude.{◌≡◌, ◌<◌, ℕ, suc, List, true}
+use Rattle.std.specs.Prelude.{◌≡◌, ◌<◌, ℕ, suc, List, Bool, true}
 use Rattle.nano_value.specs.Meaning.{Meaning}
 use Rattle.nano_bin_bytes.specs.Codec.{Codec, Encoding}
 
@@ -18,7 +18,8 @@ IsReached s c = (bytes : List ℕ) (m : Meaning) → s.encodes bytes m
 
 -- values of one type inside those of another: the codec of the outer ones, given that of the inner
 -- ones; what holds of all inner ones; what an outer one means, and the least number above those of
--- the inner ones. What holds of outer values hangs on the inner ones alone
+-- the inner ones; whether outer values are read where inner ones are. What holds of outer values
+-- hangs on the inner ones alone
 pub record Layer (A B : Type 0) : Type 1 where
   pub codec : Codec A → Codec B
   pub All : (A → Type 0) → B → Type 0
@@ -38,7 +39,8 @@ pub record Layer (A B : Type 0) : Type 1 where
       → IsWithin (codec f).encoding (codec h).encoding
   pub gathers : (c : ℕ → Codec A) → Rises c → (h : Codec A) → IsReached h.encoding c
       → IsReached (codec h).encoding (λ n. codec (c n))
-  pub is_read : (f : Codec A) → f.is_decodable ≡ true → (codec f).is_decodable ≡ true
+  pub reads : Bool
+  pub is_read : reads ≡ true → (f : Codec A) → f.is_decodable ≡ true → (codec f).is_decodable ≡ true
 
 -- a type whose values are seen as holding values of the type itself, with what they mean and how
 -- deep they are

@@ -1,6 +1,6 @@
 -- The variants of an enum around values of the enum itself: each variant is a layer, and so are all
 -- of them together.
-use Rattle.std.specs.Prelude.{◌≡◌, ◌<◌, ◌≤◌, ◌+◌, ℕ, zero, suc, refl, List, ◌++◌, true}
+use Rattle.std.specs.Prelude.{◌≡◌, ◌<◌, ◌≤◌, ◌+◌, ◌&&◌, ℕ, zero, suc, refl, List, ◌++◌, Bool, true}
 use Rattle.std.proofs.Common.{sym, ◌∙◌, ap, arith}
 use Rattle.nano_value.specs.Meaning.{Meaning}
 use Rattle.nano_value.specs.Sums.{tagged, count_variants}
@@ -9,7 +9,7 @@ use Rattle.nano_bin_bytes.specs.Codec.{Codec}
 use Rattle.nano_bin_bytes.specs.Scalars.{little_endian}
 use Rattle.nano_bin_bytes.specs.Variants.{Variants, Tagged, body_at, encoding_at, legal_bodies}
 use Rattle.nano_bin_bytes.specs.Variants.{are_read}
-use Rattle.nano_bin_bytes.proofs.CodecLaws.{both_are_read}
+use Rattle.nano_bin_bytes.proofs.CodecLaws.{both_are_read, both_read}
 use Rattle.nano_schema.specs.declared.choices.Either.{Either}
 use Rattle.nano_schema.specs.declared.choices.Either.TheVariants.{First, Later}
 use Rattle.nano_bin_schema.specs.Choices.{Chosen}
@@ -49,7 +49,9 @@ pub record ChoiceLayer (A V : Type 0) : Type 1 where
   pub gathers : (c : ℕ → Codec A) → Rises c → (h : Codec A) → IsReached h.encoding c → (tag : ℕ)
       (bytes : List ℕ) (m : Meaning) → (encoding_at (chosen h).bodies tag).encodes bytes m
       → (n : ℕ) × (encoding_at (chosen (c n)).bodies tag).encodes bytes m
-  pub is_read : (f : Codec A) → f.is_decodable ≡ true → are_read (chosen f).bodies ≡ true
+  pub reads : Bool
+  pub is_read : reads ≡ true → (f : Codec A) → f.is_decodable ≡ true
+      → are_read (chosen f).bodies ≡ true
 
 -- ---- the last variant
 
@@ -89,7 +91,8 @@ module _ {A B : Type 0} (p : Layer A B) where
     legal_same = p.legal_same;
     rises = last_rises;
     gathers = last_gathers;
-    is_read = λ f e. both_are_read (p.is_read f e) refl;
+    reads = p.reads;
+    is_read = λ r f e. both_are_read (p.is_read r f e) refl;
   }
 
 -- ---- a variant, and those after it
@@ -185,7 +188,10 @@ module _ {A B C : Type 0} (p : Layer A B) (others : ChoiceLayer A C) where
     legal_same = next_legal;
     rises = next_rises;
     gathers = next_gathers;
-    is_read = λ f e. both_are_read (p.is_read f e) (others.is_read f e);
+    reads = p.reads && others.reads;
+    is_read = λ r f e.
+        let each = both_read p.reads others.reads r in
+        both_are_read (p.is_read each.0 f e) (others.is_read each.1 f e);
   }
 
 -- ---- all of them
@@ -251,5 +257,6 @@ module _ {A V : Type 0} (v : ChoiceLayer A V) (few : AreFew v) where
             is = e.is;
           },
         );
+    reads = v.reads;
     is_read = v.is_read;
   }

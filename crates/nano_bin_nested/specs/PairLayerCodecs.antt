@@ -1,9 +1,9 @@
 -- Two parts, each of which may hold values of the type itself.
-use Rattle.std.specs.Prelude.{◌<◌, ◌+◌, ℕ, suc, max, refl, ◌++◌}
+use Rattle.std.specs.Prelude.{◌<◌, ◌+◌, ◌&&◌, ℕ, suc, max, refl, ◌++◌}
 use Rattle.std.proofs.Common.{sym, subst, arith}
 use Rattle.nano_value.specs.Meaning.{Meaning, paired}
 use Rattle.nano_meaning.proofs.MeaningLaws.{both_injective}
-use Rattle.nano_bin_bytes.proofs.CodecLaws.{both_are_read}
+use Rattle.nano_bin_bytes.proofs.CodecLaws.{both_are_read, both_read}
 use Rattle.nano_bin.specs.ContainerCodecs.{pair_codec}
 use Rattle.nano_bin_levels.specs.Layers.{Layer}
 use Rattle.nano_bin_levels.proofs.ChainsLaws.{climbs, reaches}
@@ -79,5 +79,8 @@ module _ {A B C : Type 0} (p : Layer A B) (q : Layer A C) where
             is = e.is;
           },
         );
-    is_read = λ f e. both_are_read (p.is_read f e) (q.is_read f e);
+    reads = p.reads && q.reads;
+    is_read = λ r f e.
+        let each = both_read p.reads q.reads r in
+        both_are_read (p.is_read each.0 f e) (q.is_read each.1 f e);
   }

@@ -89,16 +89,16 @@ place_of (suc (suc (suc (suc (suc (suc (suc (suc tag)))))))) = 7
 
 -- the alternatives, around the documents inside
 abbrev pub layers : (place : ℕ) → Layer Json (Fields Json place)
-layers zero = after_layer 0 (lit< tt) (other_layer unit_codec refl)
-layers (suc zero) = after_layer 1 (lit< tt) (other_layer boolean_codec refl)
-layers (suc (suc zero)) = other_layer bin_integer_codec refl
-layers (suc (suc (suc zero))) = after_layer 5 (lit< tt) (other_layer string_codec refl)
+layers zero = after_layer 0 (lit< tt) (other_layer unit_codec)
+layers (suc zero) = after_layer 1 (lit< tt) (other_layer boolean_codec)
+layers (suc (suc zero)) = other_layer bin_integer_codec
+layers (suc (suc (suc zero))) = after_layer 5 (lit< tt) (other_layer string_codec)
 layers (suc (suc (suc (suc zero)))) = after_layer 6 (lit< tt) (list_layer itself_layer)
 layers (suc (suc (suc (suc (suc zero))))) =
-    after_layer 7 (lit< tt) (list_layer (next_layer string_codec refl itself_layer))
+    after_layer 7 (lit< tt) (list_layer (next_layer string_codec itself_layer))
 layers (suc (suc (suc (suc (suc (suc zero)))))) =
-    after_layer 4 (lit< tt) (other_layer bin_decimal_codec refl)
-layers (suc (suc (suc (suc (suc (suc (suc place))))))) = other_layer no_content refl
+    after_layer 4 (lit< tt) (other_layer bin_decimal_codec)
+layers (suc (suc (suc (suc (suc (suc (suc place))))))) = other_layer no_content
 
 pub are_tagged : (f : Codec Json) → AreTagged place_of (codecs_at layers f)
 are_tagged f zero a m h =
@@ -119,8 +119,18 @@ are_tagged f (suc (suc (suc (suc (suc (suc zero)))))) a m h =
     record { tag = 4; head = h.head; tail = h.tail; whole = h.whole; tagged = h.tagged; is = refl }
 are_tagged f (suc (suc (suc (suc (suc (suc (suc place))))))) a m h = absurd h
 
+pub are_read : (place : ℕ) → (layers place).reads ≡ true
+are_read zero = refl
+are_read (suc zero) = refl
+are_read (suc (suc zero)) = refl
+are_read (suc (suc (suc zero))) = refl
+are_read (suc (suc (suc (suc zero)))) = refl
+are_read (suc (suc (suc (suc (suc zero))))) = refl
+are_read (suc (suc (suc (suc (suc (suc zero)))))) = refl
+are_read (suc (suc (suc (suc (suc (suc (suc place))))))) = refl
+
 abbrev pub bin_layer : Layer Json (Tagged (Fields Json))
-bin_layer = places_layer (λ v. v.tag) (λ v. v.fields) layers place_of are_tagged
+bin_layer = places_layer (λ v. v.tag) (λ v. v.fields) layers place_of are_tagged are_read
 
 -- ---- what a document means and how deep it is, by what it holds, as for its text
 

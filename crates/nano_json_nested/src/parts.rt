@@ -13,6 +13,7 @@ ghost use Rattle.nano_json_nested.specs.Parts.{and_parts, in_brackets};
 
 use crate::brackets::read_last;
 use crate::contents::{JsonContentWithin, close_content};
+use crate::other::read_other;
 use crate::traits::{NestedJson, ReadsJson};
 use nano_json::{DeJson, DeJsonErr, DeJsonState, end_on_error};
 use nano_levels::{Other, Within};
@@ -58,10 +59,10 @@ fn read_other_last<T: DeJson>(
     state: &mut DeJsonState,
     input: &mut Chars<'_>,
 ) -> Result<T, DeJsonErr>
-    ensures { Reads (last_codec T.json).encoding.encodes T.means
+    ensures { Reads (last_codec T.json).encoding.encodes T.json.canonical.means
         (position state.old input.old) (position state.new input.new) result }
 {
-    let last = T::de_json(alloc, state, input)?;
+    let last = read_other::<T>(alloc, state, input)?;
     state.eat_comma_block(alloc, input)?;
     state.block_close(alloc, input)?;
     Ok(last)
@@ -72,7 +73,7 @@ impl<L, T: DeJson> JsonPartsWithin<L> for Other<Newtype<T>> {
 
     ghost codec = { λ levels. last_codec T.json };
 
-    ghost means = { T.means };
+    ghost means = { T.json.canonical.means };
 
     fn read_parts(
         _levels: &L,
@@ -118,10 +119,10 @@ fn read_other_first<T: DeJson, L, P: JsonPartsWithin<L>>(
     input: &mut Chars<'_>,
 ) -> Result<(T, P::Values), DeJsonErr>
     ensures { Reads (and_parts T.json (P.codec left)).encoding.encodes
-        (λ x. paired (T.means x.0, P.means x.1))
+        (λ x. paired (T.json.canonical.means x.0, P.means x.1))
         (position state.old input.old) (position state.new input.new) result }
 {
-    let first = T::de_json(alloc, state, input)?;
+    let first = read_other::<T>(alloc, state, input)?;
     state.eat_comma_block(alloc, input)?;
     let rest = P::read_parts(levels, left, alloc, state, input)?;
     Ok((first, rest))
@@ -132,7 +133,7 @@ impl<T: DeJson, L, P: JsonPartsWithin<L>> JsonPartsWithin<L> for (Other<Newtype<
 
     ghost codec = { λ levels. and_parts T.json (P.codec levels) };
 
-    ghost means = { λ x. paired (T.means x.0, P.means x.1) };
+    ghost means = { λ x. paired (T.json.canonical.means x.0, P.means x.1) };
 
     fn read_parts(
         levels: &L,

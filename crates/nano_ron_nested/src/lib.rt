@@ -15,6 +15,7 @@ mod lists;
 mod maps;
 mod optional;
 mod options;
+mod other;
 mod pairs;
 mod part_writer;
 mod parts;

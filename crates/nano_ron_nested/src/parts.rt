@@ -10,6 +10,7 @@ ghost use Rattle.nano_ron.specs.Outcomes.{position, Reads, ReadsOrEnds};
 ghost use Rattle.nano_ron_tokens.specs.Token.{comma};
 ghost use Rattle.nano_ron_nested.specs.PartCodecs.{before_closing};
 
+use crate::other::read_other;
 use crate::traits::{NestedRon, ReadsRon};
 use nano_levels::{Other, Within};
 use nano_ron::{DeRon, DeRonErr, DeRonState};
@@ -77,7 +78,7 @@ impl<L, T: DeRon> RonPartWithin<L> for Other<Newtype<T>> {
 
     ghost part = { λ levels. T.ron.encoding };
 
-    ghost means = { T.means };
+    ghost means = { T.ron.canonical.means };
 
     fn read_part(
         _levels: &L,
@@ -86,7 +87,7 @@ impl<L, T: DeRon> RonPartWithin<L> for Other<Newtype<T>> {
         state: &mut DeRonState,
         input: &mut Chars<'_>,
     ) -> Result<T, DeRonErr> {
-        T::de_ron(alloc, state, input)
+        read_other::<T>(alloc, state, input)
     }
 
     fn discard_part(_values: T) {}
@@ -144,7 +145,7 @@ impl<L, T: DeRon> RonPartsWithin<L> for Other<Newtype<T>> {
 
     ghost parts = { λ levels. before_closing T.ron.encoding };
 
-    ghost means = { T.means };
+    ghost means = { T.ron.canonical.means };
 
     fn read_parts(
         levels: &L,

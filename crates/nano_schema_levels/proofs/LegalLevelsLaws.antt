@@ -6,7 +6,7 @@ use Rattle.nano_grammar.specs.Tokens.{Cutting}
 use Rattle.nano_grammar.specs.Codec.{Grammar, Codec}
 use Rattle.nano_levels.specs.Layers.{Nested}
 use Rattle.nano_levels.proofs.LevelsLaws.{level, limited}
-use Rattle.nano_schema_levels.specs.LegalLevels.{LegalStep, legal_level, LegalNested}
+use Rattle.nano_schema_levels.specs.LegalLevels.{LegalStep, legal_level, LegalNested, IsWeaker}
 
 module _ {T : Type 0} {c : Cutting T} {g : Grammar T} {A : Type 0} (l : Nested c g A)
     (step : LegalStep) where
@@ -58,4 +58,45 @@ legal_as {legal = legal} f agrees = record {
   reads_back = λ x h s. f.reads_back x (agrees.allows (f.canonical.means x) h) s;
   encoded_is_sound = f.encoded_is_sound;
   null_alone = f.null_alone;
+}
+
+-- ---- a type with parameters: what a format calls legal for these is legal, and all of it
+
+-- what remains legal
+pub remains : (P : Meaning → Type 0) (m : Meaning) → P m → P m
+remains P m h = h
+
+module _ {s t : LegalStep} (w : IsWeaker s t) where
+  pub level_weaker : (n : ℕ) (m : Meaning) → legal_level s n m → legal_level t n m
+  level_weaker zero m h = h
+  level_weaker (suc n) m h = w (legal_level s n) (legal_level t n) (level_weaker n) m h
+
+  pub nested_weaker : (m : Meaning) → LegalNested s m → LegalNested t m
+  nested_weaker m h = (h.0, level_weaker h.0 m h.1)
+
+-- two formats agree where the one's step is as weak as the other's
+pub agree_by_steps : {s t : LegalStep} → IsWeaker s t → IsWeaker t s → {A : Type 0}
+    {means first second : A → Meaning} {legal allowed : Meaning → Type 0}
+    → Agrees first (LegalNested s) first legal → Agrees second (LegalNested t) second allowed
+    → second ≡ means → Agrees means legal second allowed
+agree_by_steps down up first second same = record {
+  means_is = same;
+  allows = λ m h. second.allows m (nested_weaker down m (first.is_legal m h));
+  is_legal = λ m h. first.allows m (nested_weaker up m (second.is_legal m h));
+}
+
+-- what a type calls legal of a value, a format does in its own words
+pub legal_in_words : {A : Type 0} {means seen : A → Meaning} {legal allowed : Meaning → Type 0}
+    → Agrees means legal seen allowed → (x : A) → legal (means x) → allowed (seen x)
+legal_in_words {means = means} {allowed = allowed} t x h =
+    subst allowed (λ i. sym t.means_is i x) (t.allows (means x) h)
+
+-- two formats of a type agree
+pub between : {A : Type 0} {means first second : A → Meaning} {legal allowed other : Meaning → Type 0}
+    → Agrees means legal first allowed → Agrees means legal second other
+    → Agrees first allowed second other
+between t u = record {
+  means_is = u.means_is ∙ sym t.means_is;
+  allows = λ m h. u.allows m (t.is_legal m h);
+  is_legal = λ m h. t.allows m (u.is_legal m h);
 }

@@ -14,3 +14,8 @@ legal_level step (suc n) m = step (legal_level step n) m
 -- legal at some level
 abbrev pub LegalNested : LegalStep → Meaning → Type 0
 LegalNested step m = (n : ℕ) × legal_level step n m
+
+-- what the one calls legal, given what is legal inside, the other does, given that and more
+abbrev pub IsWeaker : LegalStep → LegalStep → Type 1
+IsWeaker s t = (P Q : Meaning → Type 0) → ((m : Meaning) → P m → Q m) → (m : Meaning) → s P m
+    → t Q m

@@ -40,6 +40,8 @@ mod nested_faults;
 #[cfg(test)]
 mod nested_forms;
 #[cfg(test)]
+mod nested_generic_forms;
+#[cfg(test)]
 mod nested_tests;
 #[cfg(test)]
 mod outcome;

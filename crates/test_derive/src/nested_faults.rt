@@ -31,7 +31,44 @@ struct A<T> {
     a: Vec<A>,
     b: T,
 }
-=> 2:10: `T` is a type parameter of a type that contains itself
+=> 3:12: `A` stands in itself with other types in place of its type parameters
+----
+// nanoserde: bin
+struct A<T> {
+    a: Vec<A<u8>>,
+    b: T,
+}
+=> 3:12: `A` stands in itself with other types in place of its type parameters
+----
+// nanoserde: bin
+struct A<T, U> {
+    a: Vec<A<U, T>>,
+    b: T,
+    c: U,
+}
+=> 3:12: `A` stands in itself with other types in place of its type parameters
+----
+// nanoserde: bin
+struct A<T: Copy> {
+    a: Vec<A<T>>,
+    b: T,
+}
+=> 2:10: `T` has a bound in a type that contains itself
+----
+// nanoserde: bin
+#[cycle(n)]
+struct A<T> {
+    a: Vec<B<T>>,
+    b: T,
+}
+
+// nanoserde: bin
+#[cycle(n)]
+enum B<T> {
+    C(Box<A<T>>),
+    D(T),
+}
+=> 3:10: `T` is a type parameter of one of types that contain each other
 ----
 // nanoserde: bin
 struct A(Vec<A>);

@@ -55,7 +55,7 @@ outline_depth = fold-Outline ℕ depth_step
 -- ---- its fields
 
 abbrev pub section_layer : Layer Outline (Section Outline)
-section_layer = next_layer string_codec refl itself_layer
+section_layer = next_layer string_codec itself_layer
 
 abbrev pub outline_layer : Layer Outline (Fields Outline)
 outline_layer =

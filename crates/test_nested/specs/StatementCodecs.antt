@@ -141,7 +141,7 @@ branch_depth_is x =
 
 abbrev pub statement_variants : ChoiceLayer Statement (StatementContent Statement)
 statement_variants =
-    next_variant (other_layer (pair_codec string_codec i32_codec) refl)
+    next_variant (other_layer (pair_codec string_codec i32_codec))
     (next_variant (seen_layer (λ x. x.items) (list_layer itself_layer))
     (last_variant (seen_layer (λ x. x.value) branch_around)))
 

@@ -63,7 +63,7 @@ widget_step P =
 
 abbrev pub widget_layer : Layer Widget (WidgetContent Widget)
 widget_layer =
-    next_layer (pair_codec string_codec (pair_codec string_codec u16_codec)) refl (next_layer (pair_codec i32_codec boolean_codec) refl (pair_layer (seen_layer (λ x. x.items) (list_layer itself_layer)) (seen_layer (λ x. x.entries) (ordered_map_layer texts string_codec refl itself_layer string_cmp))))
+    next_layer (pair_codec string_codec (pair_codec string_codec u16_codec)) (next_layer (pair_codec i32_codec boolean_codec) (pair_layer (seen_layer (λ x. x.items) (list_layer itself_layer)) (seen_layer (λ x. x.entries) (ordered_map_layer texts string_codec refl itself_layer string_cmp))))
 
 pub widget_means_opened : (y : Widget-F Widget)
     → widget_means_step (map-Widget Widget Meaning widget_means y)

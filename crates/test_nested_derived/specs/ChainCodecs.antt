@@ -51,7 +51,7 @@ chain_step P = LegalPair (LegalUnsigned 32) (LegalOption P)
 -- ---- as bytes: the layer around the values in it, and the codec
 
 abbrev pub chain_layer : Layer Chain (ChainContent Chain)
-chain_layer = next_layer u32_codec refl (option_layer (seen_layer (λ x. x.value) itself_layer))
+chain_layer = next_layer u32_codec (option_layer (seen_layer (λ x. x.value) itself_layer))
 
 pub chain_means_opened : (y : Chain-F Chain)
     → chain_means_step (map-Chain Chain Meaning chain_means y)

@@ -61,7 +61,7 @@ expression_step P =
 
 abbrev pub expression_variants : ChoiceLayer Expression (ExpressionContent Expression)
 expression_variants =
-    next_variant (other_layer i64_codec refl)
+    next_variant (other_layer i64_codec)
     (next_variant (seen_layer (λ x. x.value) itself_layer)
     (last_variant (pair_layer (seen_layer (λ x. x.value) itself_layer) (seen_layer (λ x. x.value) itself_layer))))
 

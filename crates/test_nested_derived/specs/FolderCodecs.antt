@@ -50,7 +50,7 @@ folder_step P = LegalPair LegalText (LegalList P)
 -- ---- as bytes: the layer around the values in it, and the codec
 
 abbrev pub folder_layer : Layer Folder (FolderContent Folder)
-folder_layer = next_layer string_codec refl (seen_layer (λ x. x.items) (list_layer itself_layer))
+folder_layer = next_layer string_codec (seen_layer (λ x. x.items) (list_layer itself_layer))
 
 pub folder_means_opened : (y : Folder-F Folder)
     → folder_means_step (map-Folder Folder Meaning folder_means y)

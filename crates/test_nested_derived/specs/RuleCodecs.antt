@@ -66,8 +66,8 @@ rule_step P =
 
 abbrev pub rule_variants : ChoiceLayer Rule (RuleContent Rule)
 rule_variants =
-    next_variant (other_layer unit_codec refl)
-    (next_variant (other_layer u8_codec refl)
+    next_variant (other_layer unit_codec)
+    (next_variant (other_layer u8_codec)
     (last_variant (pair_layer (seen_layer (λ x. x.value) itself_layer) (pair_layer (seen_layer (λ x. x.value) itself_layer) (option_layer (seen_layer (λ x. x.value) itself_layer))))))
 
 abbrev pub rule_layer : Layer Rule (RuleContent Rule)

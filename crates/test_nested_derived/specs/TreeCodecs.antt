@@ -59,7 +59,7 @@ tree_step P = LegalVariant (variant (LegalSigned w32) (variant (LegalList P) no_
 
 abbrev pub tree_variants : ChoiceLayer Tree (TreeContent Tree)
 tree_variants =
-    next_variant (other_layer i32_codec refl)
+    next_variant (other_layer i32_codec)
     (last_variant (seen_layer (λ x. x.items) (list_layer itself_layer)))
 
 abbrev pub tree_layer : Layer Tree (TreeContent Tree)

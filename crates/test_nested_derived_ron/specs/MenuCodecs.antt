@@ -56,7 +56,7 @@ menu_step P = LegalPair LegalText (LegalMap LegalText P)
 
 abbrev pub menu_layer : Layer Menu (MenuContent Menu)
 menu_layer =
-    next_layer string_codec refl (seen_layer (λ x. x.entries) (ordered_map_layer texts string_codec refl itself_layer string_cmp))
+    next_layer string_codec (seen_layer (λ x. x.entries) (ordered_map_layer texts string_codec refl itself_layer string_cmp))
 
 pub menu_means_opened : (y : Menu-F Menu)
     → menu_means_step (map-Menu Menu Meaning menu_means y)

@@ -87,9 +87,9 @@ setting_step P =
 
 abbrev pub setting_variants : ChoiceLayer Setting (SettingContent Setting)
 setting_variants =
-    next_variant (other_layer unit_codec refl)
-    (next_variant (other_layer string_codec refl)
-    (next_variant (other_layer (codec_as (λ (x : BTreeMap ℤ ℕ). x.entries) (ordered_map_codec numbers int_cmp i32_codec u64_codec)) refl)
+    next_variant (other_layer unit_codec)
+    (next_variant (other_layer string_codec)
+    (next_variant (other_layer (codec_as (λ (x : BTreeMap ℤ ℕ). x.entries) (ordered_map_codec numbers int_cmp i32_codec u64_codec)))
     (next_variant (seen_layer (λ x. x.entries) (ordered_map_layer texts string_codec refl itself_layer string_cmp))
     (last_variant (seen_layer (λ x. x.entries) (ordered_map_layer wholes u16_codec refl (seen_layer (λ x. x.items) (list_layer itself_layer)) nat_cmp))))))
 

@@ -65,7 +65,7 @@ camp_step P = LegalPair weather_value.legal (LegalList P)
 -- ---- as bytes: the layer around the values in it, and the codec
 
 abbrev pub camp_layer : Layer Camp (CampContent Camp)
-camp_layer = next_layer weather_part refl (seen_layer (λ x. x.items) (list_layer itself_layer))
+camp_layer = next_layer weather_part (seen_layer (λ x. x.items) (list_layer itself_layer))
 
 pub camp_means_opened : (y : Camp-F Camp)
     → camp_means_step (map-Camp Camp Meaning camp_means y)
@@ -129,8 +129,8 @@ route_step P =
 
 abbrev pub route_variants : ChoiceLayer Route (RouteContent Route)
 route_variants =
-    next_variant (other_layer unit_codec refl)
-    (last_variant (next_layer weather_part refl (seen_layer (λ x. x.value) itself_layer)))
+    next_variant (other_layer unit_codec)
+    (last_variant (next_layer weather_part (seen_layer (λ x. x.value) itself_layer)))
 
 abbrev pub route_layer : Layer Route (RouteContent Route)
 route_layer = choice_layer route_variants (λ f. lit≤ tt)

@@ -72,9 +72,9 @@ plan_step P =
 
 abbrev pub plan_variants : ChoiceLayer Plan (PlanContent Plan)
 plan_variants =
-    next_variant (other_layer unit_codec refl)
-    (next_variant (next_layer scene_part refl (seen_layer (λ x. x.value) itself_layer))
-    (last_variant (next_layer (option_codec scene_part) refl (seen_layer (λ x. x.items) (list_layer itself_layer)))))
+    next_variant (other_layer unit_codec)
+    (next_variant (next_layer scene_part (seen_layer (λ x. x.value) itself_layer))
+    (last_variant (next_layer (option_codec scene_part) (seen_layer (λ x. x.items) (list_layer itself_layer)))))
 
 abbrev pub plan_layer : Layer Plan (PlanContent Plan)
 plan_layer = choice_layer plan_variants (λ f. lit≤ tt)

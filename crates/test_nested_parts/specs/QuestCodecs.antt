@@ -93,10 +93,10 @@ quest_step P =
 
 abbrev pub quest_variants : ChoiceLayer Quest (QuestContent Quest)
 quest_variants =
-    next_variant (other_layer mode_part refl)
-    (next_variant (next_layer item_part refl (seen_layer (λ x. x.value) itself_layer))
-    (next_variant (pair_layer (seen_layer (λ x. x.items) (list_layer itself_layer)) (other_layer (pair_codec (codec_as (λ (x : Vec Mode Global). x.items) (list_codec mode_part)) (option_codec mode_part)) refl))
-    (last_variant (other_layer (codec_as (λ (x : BTreeMap (String Global) Item). x.entries) (ordered_map_codec texts string_cmp string_codec item_part)) refl))))
+    next_variant (other_layer mode_part)
+    (next_variant (next_layer item_part (seen_layer (λ x. x.value) itself_layer))
+    (next_variant (pair_layer (seen_layer (λ x. x.items) (list_layer itself_layer)) (other_layer (pair_codec (codec_as (λ (x : Vec Mode Global). x.items) (list_codec mode_part)) (option_codec mode_part))))
+    (last_variant (other_layer (codec_as (λ (x : BTreeMap (String Global) Item). x.entries) (ordered_map_codec texts string_cmp string_codec item_part))))))
 
 abbrev pub quest_layer : Layer Quest (QuestContent Quest)
 quest_layer = choice_layer quest_variants (λ f. lit≤ tt)

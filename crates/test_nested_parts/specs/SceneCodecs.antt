@@ -56,7 +56,7 @@ scene_step P = LegalPair mode_value.legal (LegalList P)
 -- ---- as bytes: the layer around the values in it, and the codec
 
 abbrev pub scene_layer : Layer Scene (SceneContent Scene)
-scene_layer = next_layer mode_part refl (seen_layer (λ x. x.items) (list_layer itself_layer))
+scene_layer = next_layer mode_part (seen_layer (λ x. x.items) (list_layer itself_layer))
 
 pub scene_means_opened : (y : Scene-F Scene)
     → scene_means_step (map-Scene Scene Meaning scene_means y)

@@ -13,8 +13,10 @@ use std::alloc::Global;
 
 const TUPLE: &str = "is a tuple struct that contains itself: give its parts names";
 
-const GENERIC: &str =
-    "is a type parameter of a type that contains itself, and such a type has none";
+const GENERIC: &str = "is a type parameter of one of types that contain each other, and such types \
+    have none";
+
+const BOUND: &str = "has a bound in a type that contains itself, where a type parameter has none";
 
 const NO_CODEC: &str = "stands above a type that contains itself: write `bin`, `json`, `ron` or \
     several of them";
@@ -63,9 +65,10 @@ pub(crate) fn check_nested<'a>(
     let Some(cycle) = cycle else {
         return Ok(());
     };
-    if let Some(parameter) = definition.parameters.first() {
+    if let (Some(parameter), false) = (definition.parameters.first(), cycle.is_one()) {
         return Err(parameter.fault(GENERIC));
     }
+    check_no_bounds(definition)?;
     check_formats(definition.attributes)?;
     check_same(source, definition, &cycle)?;
     let attributes = definition.attributes;
@@ -77,6 +80,16 @@ pub(crate) fn check_nested<'a>(
         Shape::Parts(_parts) => Err(definition.name.fault(TUPLE)),
         Shape::Variants(variants) => check_variants(alloc, source, &cycle, variants),
     }
+}
+
+/// An error at the first bound of the type parameters of a type that contains itself.
+fn check_no_bounds<'a>(definition: &Definition<'a>) -> Result<(), Fault> {
+    for bound in &definition.bounds {
+        if let Some(token) = bound.of.0.first() {
+            return Err(token.fault(BOUND));
+        }
+    }
+    Ok(())
 }
 
 /// An error where a limit of levels is no number of them, or stands above a type that has none.

@@ -5,6 +5,7 @@ use crate::output::nested_bodies::{known_arms, known_fields};
 use crate::output::nested_json::{append_json_choice, append_json_record};
 use crate::output::nested_json_fields::json_fields;
 use crate::output::nested_names::{cycle_line, nested_holes, put_codec, put_laws, reader_cycle};
+use crate::output::nested_parameters::{given, put_bounds, put_read};
 use crate::output::nested_ron::{append_ron_choice, append_ron_record};
 use crate::output::nested_rows::{NestedRow, append_choice_row, append_record_row};
 use crate::output::nested_writes::{write_arms, write_fields};
@@ -43,7 +44,7 @@ pub(crate) fn append_nested<'a>(
     (source, definition): (&Source<'a>, &Definition<'a>),
     cycle: Cycle<'a>,
 ) -> Result<(), Fault> {
-    let mut target = Target::new(sheet, module, definition)?;
+    let mut target = Target::nested(sheet, module, definition)?;
     for other in &source.definitions {
         if cycle.is_root(other.name) {
             target.counted = other.attributes;
@@ -108,7 +109,7 @@ fn append_choice<'a>(
 }
 
 const SCHEMA: &str = "
-impl $SCHEMA for $TYPE {
+impl$BY_NONE $SCHEMA for $FULL {
     ghost use Rattle.$SPECS.{$SEEN};
 
     type Values = $HELD;
@@ -119,10 +120,10 @@ $VIEWS    fn make(values: Self::Values) -> Self {
 $MAKING    }
 }
 
-impl nano_schema::Value for $TYPE {
+impl$BY_VALUE nano_schema::Value for $FULL {
 $CITED
 
-    ghost means = { $MEANS };
+    ghost means = { $IS_MEANT };
 
     ghost legal = { $FIRST.encoding.legal };
 
@@ -133,22 +134,22 @@ $KNOWN    }
 const BYTES: &str = "
 // ---- bytes
 
-impl nano_bin_schema::BinCodec for $TYPE {
+impl$BY_CODEC nano_bin_schema::BinCodec for $FULL {
     ghost use Rattle.$SPECS.{$BIN};
 
-    ghost bin = { $BIN };
+    ghost bin = { $IS_CODED };
 
     ghost agrees = { agreed };
 }
 
-impl nano_bin_nested::WritesBin for $TYPE {
+impl$BY_SER nano_bin_nested::WritesBin for $FULL {
     #[tactic(auto, using($LAWS_written_laws))]
 $IN_WRITE    fn write_bin(&self, alloc: std::alloc::Global, output: &mut Vec<u8>) \
         -> Result<(), std::alloc::AllocError> {
 $WRITE    }
 }
 
-impl nano_bin_schema::SerBin for $TYPE {
+impl$BY_SER nano_bin_schema::SerBin for $FULL {
     fn ser_bin(&self, alloc: std::alloc::Global, output: &mut Vec<u8>) \
         -> Result<(), std::alloc::AllocError> {
         nano_bin_nested::WritesBin::write_bin(self, alloc, output)
@@ -156,10 +157,10 @@ impl nano_bin_schema::SerBin for $TYPE {
 }";
 
 const LEVELS: &str = "
-impl nano_bin_nested::ReadsBin<$TYPE> for nano_levels::Levels {
+impl$BY_LEVELS nano_bin_nested::ReadsBin<$FULL> for nano_levels::Levels {
     #[cycle($IN_READ)]
     fn read_bin(&self, alloc: std::alloc::Global, offset: &mut usize, bytes: &[u8]) \
-        -> Result<$TYPE, nano_bin_schema::DeBinErr> {
+        -> Result<$FULL, nano_bin_schema::DeBinErr> {
         let nano_levels::Levels::More(below) = self else {
             return Err(nano_bin_nested::no_memory(*offset, bytes));
         };
@@ -172,17 +173,17 @@ impl nano_bin_nested::ReadsBin<$TYPE> for nano_levels::Levels {
 
 // It is no level of its own: as many may follow of the values of the root.
 const AROUND: &str = "
-impl nano_bin_nested::ReadsBin<$TYPE> for nano_levels::Levels {
+impl$BY_LEVELS nano_bin_nested::ReadsBin<$FULL> for nano_levels::Levels {
     #[cycle($IN_READ)]
     fn read_bin(&self, alloc: std::alloc::Global, offset: &mut usize, bytes: &[u8]) \
-        -> Result<$TYPE, nano_bin_schema::DeBinErr> {
+        -> Result<$FULL, nano_bin_schema::DeBinErr> {
         $CALL
     }
 }";
 
 const READER: &str = "
-impl nano_bin_schema::DeBin for $TYPE {
-    ghost is_decodable = { refl };
+impl$BY_DE nano_bin_schema::DeBin for $FULL {
+$CITES_READ    ghost is_decodable = { $IS_READ };
 
     fn de_bin(alloc: std::alloc::Global, offset: &mut usize, bytes: &[u8]) \
         -> Result<Self, nano_bin_schema::DeBinErr> {
@@ -224,12 +225,18 @@ fn append_bytes<'a>(
     mut holes: Holes,
     write: &String,
 ) -> Result<(), AllocError> {
-    sheet.import("ghost use Rattle.std.specs.Prelude.{refl};")?;
     sheet.import("ghost use Rattle.nano_schema.specs.UserTypes.{agreed};")?;
     let alloc = sheet.alloc;
     let name = Case::Snake.of_variant(alloc, target.name.text)?;
+    put_read(&mut holes, sheet, target)?;
+    put_bounds(&mut holes, sheet, target, "bin")?;
     holes.put("CALL", reading(sheet, target, kind)?.as_str());
-    holes.put("BIN", format!(in alloc; "{name}_codec")?.as_str());
+    let codec = format!(in alloc; "{name}_codec")?;
+    holes.put(
+        "IS_CODED",
+        given(alloc, target, codec.as_str(), "bin")?.as_str(),
+    );
+    holes.put("BIN", codec.as_str());
     holes.put("LEVELS", levels_of(alloc, target)?.as_str());
     holes.put("IN_READ", reader_cycle(alloc, target, "bin")?.as_str());
     holes.put(

@@ -14,25 +14,25 @@ use std::alloc::{AllocError, Global};
 pub(crate) const CODEC: &str = "
 // ---- JSON
 
-impl nano_json_schema::JsonCodec for $TYPE {
-    ghost use Rattle.$TEXTS.{$OWN};
+impl$BY_CODEC nano_json_schema::JsonCodec for $FULL {
+    ghost use Rattle.$TEXTS.{$OWN$AND_LAW};
 
-    ghost json = { $OWN };
+    ghost json = { $IS_CODED };
 
-    ghost agrees = { agreed };
+    ghost agrees = { $AGREED };
 }
 
-impl nano_json_nested::NestedJson for $TYPE {
+impl$BY_NESTED nano_json_nested::NestedJson for $FULL {
     ghost use Rattle.$SPECS.{$MEANS};
     ghost use Rattle.$TEXTS.{$AT};
 
-    ghost means = { $MEANS };
+    ghost means = { $SAYS };
 
-    ghost at = { $AT };
+    ghost at = { $CODES };
 }";
 
 pub(crate) const CHOICE: &str = "
-impl nano_json_nested::WritesJson for $TYPE {
+impl$BY_SER nano_json_nested::WritesJson for $FULL {
 $AROUND    #[tactic(auto, using($RULES_json_texts))]
     fn write_json(&self, alloc: std::alloc::Global, d: usize, \
         s: &mut nano_json_schema::SerJsonState) -> Result<(), std::alloc::AllocError> {
@@ -52,14 +52,14 @@ impl $WRITER {
 
     /// Appends the fields between braces. If the write fails, what was written so far is left.
     #[cycle($CYCLE)]
-    fn append_record(
-        value: &$TYPE,
+    fn append_record$BY_SER(
+        value: &$FULL,
         alloc: std::alloc::Global,
         d: usize,
         s: &mut nano_json_schema::SerJsonState,
     ) -> Result<(), std::alloc::AllocError>
         ensures ok { OnOk result
-            (Appends s.old.out s.new.out ($OWN.canonical.text d value.now)) }
+            (Appends s.old.out s.new.out ($IS_WRITTEN.canonical.text d value.now)) }
         ensures err { OnErr result (AppendsPart s.old.out s.new.out) }
     {
         s.st_pre()?;
@@ -68,7 +68,7 @@ $FIELDS        s.st_post(d)
     }
 }
 
-impl nano_json_nested::WritesJson for $TYPE {
+impl$BY_SER nano_json_nested::WritesJson for $FULL {
     #[cycle($CYCLE)]
     fn write_json(&self, alloc: std::alloc::Global, d: usize, \
         s: &mut nano_json_schema::SerJsonState) -> Result<(), std::alloc::AllocError> {
@@ -79,7 +79,7 @@ impl nano_json_nested::WritesJson for $TYPE {
 }";
 
 pub(crate) const WRITER: &str = "
-impl nano_json_schema::SerJson for $TYPE {
+impl$BY_SER nano_json_schema::SerJson for $FULL {
     fn ser_json(&self, alloc: std::alloc::Global, d: usize, \
         s: &mut nano_json_schema::SerJsonState) -> Result<(), std::alloc::AllocError> {
         nano_json_nested::WritesJson::write_json(self, alloc, d, s)
@@ -87,11 +87,11 @@ impl nano_json_schema::SerJson for $TYPE {
 }";
 
 pub(crate) const LEVELS: &str = "
-impl nano_json_nested::ReadsJson<$TYPE> for nano_levels::Levels {
+impl$BY_LEVELS nano_json_nested::ReadsJson<$FULL> for nano_levels::Levels {
     #[cycle($IN_READ)]
     fn read_json(&self, left: usize, alloc: std::alloc::Global, \
         state: &mut nano_json_schema::DeJsonState, input: &mut std::str::Chars<'_>) \
-        -> Result<$TYPE, nano_json_schema::DeJsonErr> {
+        -> Result<$FULL, nano_json_schema::DeJsonErr> {
         if left == 0 {
             return Err($DEEP);
         }
@@ -110,11 +110,11 @@ impl nano_json_nested::ReadsJson<$TYPE> for nano_levels::Levels {
 
 // It is no level of its own: as many may follow of the values of the root.
 pub(crate) const AROUND: &str = "
-impl nano_json_nested::ReadsJson<$TYPE> for nano_levels::Levels {
+impl$BY_LEVELS nano_json_nested::ReadsJson<$FULL> for nano_levels::Levels {
     #[cycle($IN_READ)]
     fn read_json(&self, left: usize, alloc: std::alloc::Global, \
         state: &mut nano_json_schema::DeJsonState, input: &mut std::str::Chars<'_>) \
-        -> Result<$TYPE, nano_json_schema::DeJsonErr> {
+        -> Result<$FULL, nano_json_schema::DeJsonErr> {
         match $CALL {
             Ok(values) => Ok($TYPE::make(values)),
             Err(error) => Err(error),
@@ -123,7 +123,7 @@ impl nano_json_nested::ReadsJson<$TYPE> for nano_levels::Levels {
 }";
 
 pub(crate) const READER: &str = "
-impl nano_json_schema::DeJson for $TYPE {
+impl$BY_DE nano_json_schema::DeJson for $FULL {
     fn de_json(alloc: std::alloc::Global, state: &mut nano_json_schema::DeJsonState, \
         input: &mut std::str::Chars<'_>) -> Result<Self, nano_json_schema::DeJsonErr> {
         let levels = nano_levels::Levels::most();

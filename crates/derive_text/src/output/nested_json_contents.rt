@@ -3,6 +3,7 @@
 use crate::output::nested_json::import_outcomes;
 use crate::output::nested_json_fields::json_fields;
 use crate::output::nested_names::{put_variant, specs_of, writer_cycle};
+use crate::output::nested_parameters::{given_term, writer_bounds};
 use crate::output::nested_text::{JSON, TextNames, writer_of};
 use derive_impls::layout::Items;
 use derive_impls::rows::{Leaf, paired};
@@ -22,7 +23,7 @@ $BROUGHT    ghost use Rattle.$TEXTS.{$JSON, $CONTENT};
     $INNER
         requires { value.now ≡ $WHOLE }
         ensures ok { OnOk result (Appends s.old.out s.new.out
-            (($CONTENT.codec $JSON).canonical.text d $VALUE)) }
+            (($LAID.codec $IS_WRITTEN).canonical.text d $VALUE)) }
         ensures err { OnErr result (AppendsPart s.old.out s.new.out) }
     {
         s.st_pre()?;
@@ -36,7 +37,7 @@ $FIELDS        s.st_post(d)
         requires { value.now ≡ $WHOLE }
         ensures ok { OnOk result (Appends s.old.out s.new.out
             (content_text (codes \"$KEY\")
-            (($CONTENT.codec $JSON).canonical.text d $VALUE))) }
+            (($LAID.codec $IS_WRITTEN).canonical.text d $VALUE))) }
         ensures err { OnErr result (AppendsPart s.old.out s.new.out) }
     {
         s.st_pre()?;
@@ -52,7 +53,7 @@ $FIELDS        s.st_post(d)
         requires { value.now ≡ $WHOLE }
         ensures ok { OnOk result (Appends s.old.out s.new.out
             (content_text (codes \"$KEY\")
-            (($CONTENT.codec $JSON).canonical.text d $VALUE))) }
+            (($LAID.codec $IS_WRITTEN).canonical.text d $VALUE))) }
         ensures err { OnErr result (Unchanged s.old.out s.new.out) }
     {
         let start = s.out.len();
@@ -123,7 +124,12 @@ fn append_content<'a>(
     let lines = json_fields(sheet, target, fields, (leaves, "v"))?;
     holes.put("TEXTS", specs_of(alloc, target.module, "Json")?.as_str());
     holes.put("FIELDS", lines.as_str());
-    holes.put("JSON", format!(in alloc; "{of}_json")?.as_str());
+    let codec = format!(in alloc; "{of}_json")?;
+    let written = given_term(alloc, target, codec.as_str(), JSON.name)?;
+    let laid = given_term(alloc, target, content.as_str(), JSON.name)?;
+    holes.put("IS_WRITTEN", written.as_str());
+    holes.put("LAID", laid.as_str());
+    holes.put("JSON", codec.as_str());
     holes.put("CONTENT", content.as_str());
     holes.put("NAME", variant.name.text);
     holes.put("KEY", variant_name(alloc, variant, None)?.as_str());
@@ -182,7 +188,8 @@ fn head<'a>(
     parameters.push(sheet.short("alloc: std::alloc::Global")?)?;
     parameters.push(String::from_str(alloc, "d: usize")?)?;
     parameters.push(sheet.short("s: &mut nano_json_schema::SerJsonState")?)?;
-    let open = format!(in alloc; "fn {name}(")?;
+    let bounds = writer_bounds(sheet, target, JSON.name)?;
+    let open = format!(in alloc; "fn {name}{bounds}(")?;
     let close = sheet.short(") -> Result<(), std::alloc::AllocError>")?;
     let brackets = (open.as_str(), close.as_str());
     Ok(bracketed(alloc, brackets, &parameters, Items::Patterns, (4, 4))?.laid)

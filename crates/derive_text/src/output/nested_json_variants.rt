@@ -2,6 +2,7 @@
 //! in RON.
 
 use crate::output::nested_bodies::{Held, arm, arm_of, parts_of};
+use crate::output::nested_parameters::arguments;
 use crate::output::nested_text::{JSON, TextNames, writer_of};
 use derive_impls::chains::append_variants;
 use derive_impls::labels::name_of;
@@ -26,7 +27,8 @@ pub(crate) fn json_variants<'a>(
     if !have_several(variants) {
         return target.row.clone();
     }
-    let full = name_of(sheet, target.name.text, "JsonVariants")?;
+    let mut full = name_of(sheet, target.name.text, "JsonVariants")?;
+    full.push_str(arguments(sheet.alloc, target)?.as_str())?;
     let mut leaves = Vec::new(sheet.alloc);
     for (variant, schema) in variants.iter().zip(schemas) {
         leaves.push(json_leaf(sheet, variant, schema)?)?;

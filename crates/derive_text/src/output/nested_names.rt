@@ -1,6 +1,7 @@
 //! The names that stand in the impls of a type that contains itself: those of its definitions and of
 //! its laws.
 
+use crate::output::nested_parameters::{given_term, put_shared};
 use crate::output::nested_text::first_text;
 use derive_impls::sheet::Sheet;
 use derive_impls::target::Target;
@@ -63,7 +64,11 @@ pub(crate) fn put_codec<'a>(
             "    ghost use Rattle.{specs}.{{{name}_means, {name}_codec}};"
         )?;
         holes.put("CITED", cited.as_str());
-        holes.put("FIRST", format!(in alloc; "{name}_codec")?.as_str());
+        let codec = format!(in alloc; "{name}_codec")?;
+        holes.put(
+            "FIRST",
+            given_term(alloc, target, codec.as_str(), "bin")?.as_str(),
+        );
         return Ok(());
     };
     let (texts, end) = (specs_of(alloc, target.module, format.word)?, format.name);
@@ -72,7 +77,11 @@ pub(crate) fn put_codec<'a>(
     ghost use Rattle.{texts}.{{{name}_{end}}};"
     )?;
     holes.put("CITED", cited.as_str());
-    holes.put("FIRST", format!(in alloc; "{name}_{end}")?.as_str());
+    let codec = format!(in alloc; "{name}_{end}")?;
+    holes.put(
+        "FIRST",
+        given_term(alloc, target, codec.as_str(), end)?.as_str(),
+    );
     Ok(())
 }
 
@@ -87,6 +96,7 @@ pub(crate) fn nested_holes<'a>(
     holes.put("SPECS", specs_of(alloc, target.module, "")?.as_str());
     holes.put("SEEN", format!(in alloc; "{name}_view")?.as_str());
     holes.put("MEANS", format!(in alloc; "{name}_means")?.as_str());
+    put_shared(&mut holes, sheet, target)?;
     Ok(holes)
 }
 

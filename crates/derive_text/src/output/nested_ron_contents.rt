@@ -3,6 +3,7 @@
 use crate::output::nested_json::import_outcomes;
 use crate::output::nested_json_contents::append_writer;
 use crate::output::nested_names::{put_variant, specs_of, writer_cycle};
+use crate::output::nested_parameters::{given, writer_bounds};
 use crate::output::nested_ron_steps::field_steps;
 use crate::output::nested_text::{RON, writer_of};
 use derive_impls::sheet::Sheet;
@@ -17,7 +18,7 @@ $BROUGHT    ghost use Rattle.$TEXTS.{$OWN};
 
     /// Appends `$CASE`. If the write fails, what was written so far is left.
     #[cycle($CYCLE)]
-    fn append_$END(
+    fn append_$END$BY_SER(
         value: &$TYPE,
 $ARGUMENTS        alloc: std::alloc::Global,
         d: usize,
@@ -25,14 +26,14 @@ $ARGUMENTS        alloc: std::alloc::Global,
     ) -> Result<(), std::alloc::AllocError>
         requires { value.now ≡ $WHOLE }
         ensures ok { OnOk result
-            (Appends s.old.out s.new.out ($OWN d$SAID)) }
+            (Appends s.old.out s.new.out ($IS_CODED d$SAID)) }
         ensures err { OnErr result (AppendsPart s.old.out s.new.out) }
     {
 $STEPS    }
 
     /// Appends `$CASE`. If the write fails, the text is unchanged.
     #[cycle($CYCLE)]
-    fn write_$END(
+    fn write_$END$BY_SER(
         value: &$TYPE,
 $ARGUMENTS        alloc: std::alloc::Global,
         d: usize,
@@ -40,7 +41,7 @@ $ARGUMENTS        alloc: std::alloc::Global,
     ) -> Result<(), std::alloc::AllocError>
         requires { value.now ≡ $WHOLE }
         ensures ok { OnOk result
-            (Appends s.old.out s.new.out ($OWN d$SAID)) }
+            (Appends s.old.out s.new.out ($IS_CODED d$SAID)) }
         ensures err { OnErr result (Unchanged s.old.out s.new.out) }
     {
         let start = s.out.len();
@@ -83,7 +84,14 @@ fn append_content<'a>(
     let steps = steps_of(sheet, target, variant, fields)?;
     let texts = specs_of(alloc, target.module, RON.word)?;
     holes.put("TEXTS", texts.as_str());
-    holes.put("OWN", format!(in alloc; "{name}_ron_of_{end}")?.as_str());
+    let own = format!(in alloc; "{name}_ron_of_{end}")?;
+    let bounds = writer_bounds(sheet, target, RON.name)?;
+    holes.put("BY_SER", bounds.as_str());
+    holes.put(
+        "IS_CODED",
+        given(alloc, target, own.as_str(), RON.name)?.as_str(),
+    );
+    holes.put("OWN", own.as_str());
     holes.put("TYPE", target.full.as_str());
     holes.put("CASE", variant.name.text);
     holes.put("CYCLE", writer_cycle(alloc, target, RON.name)?.as_str());

@@ -2,6 +2,7 @@
 //! values of the type, and `Other` around the rest.
 
 use crate::output::nested_bodies::{record_making, variants_making};
+use crate::output::nested_parameters::arguments_in;
 use derive_impls::chains::append_owned_chains;
 use derive_impls::defaults::append_default;
 use derive_impls::fields::field_texts;
@@ -214,7 +215,8 @@ fn variant_content<'a>(
         return Ok(leaf.piece(alloc, 0, 0)?.flat);
     }
     let owner = owner_of(alloc, target, variant)?;
-    let row = name_of(sheet, owner.as_str(), "Parts")?;
+    let mut row = name_of(sheet, owner.as_str(), "Parts")?;
+    row.push_str(arguments_in(alloc, target, &variant.content)?.as_str())?;
     append_row(sheet, row.as_str(), leaves)?;
     if !is_struct {
         return Ok(row);

@@ -2,6 +2,7 @@
 //! the format, and the call that reads a value.
 
 use crate::output::nested_names::{laws_of, nested_holes, reader_cycle, specs_of};
+use crate::output::nested_parameters::{given, given_term, meant, put_agreement, put_bounds};
 use derive_impls::layout::{Brackets, Items, Piece, list};
 use derive_impls::sheet::Sheet;
 use derive_impls::target::Target;
@@ -83,12 +84,23 @@ pub(crate) fn text_holes<'a>(
     let name = Case::Snake.of_variant(alloc, target.name.text)?;
     let mut holes = nested_holes(sheet, target)?;
     let codec = format!(in alloc; "{name}_{end}")?;
-    sheet.import("ghost use Rattle.nano_schema.specs.UserTypes.{agreed};")?;
+    put_agreement(&mut holes, sheet, target, end)?;
+    put_bounds(&mut holes, sheet, target, end)?;
+    let at = format!(in alloc; "{name}_{end}_at")?;
+    let means = format!(in alloc; "{name}_means")?;
+    holes.put(
+        "IS_CODED",
+        given(alloc, target, codec.as_str(), end)?.as_str(),
+    );
+    let written = given_term(alloc, target, codec.as_str(), end)?;
+    holes.put("IS_WRITTEN", written.as_str());
+    holes.put("CODES", given(alloc, target, at.as_str(), end)?.as_str());
+    holes.put("SAYS", meant(alloc, target, means.as_str(), end)?.as_str());
     holes.put("RULES", laws_of(alloc, target, word)?.as_str());
     holes.put("TEXTS", specs_of(alloc, target.module, word)?.as_str());
     holes.put("OWN", codec.as_str());
     holes.put("WRITER", writer_of(alloc, target, format)?.as_str());
-    holes.put("AT", format!(in alloc; "{name}_{end}_at")?.as_str());
+    holes.put("AT", at.as_str());
     holes.put("IN_READ", reader_cycle(alloc, target, end)?.as_str());
     holes.put("LIMIT", target.counted.level_limit());
     holes.put("DEEP", too_deep(sheet, target, end)?.as_str());

@@ -1,0 +1,9 @@
+mod TreeCodecsLaws
+mod TreeJsonCodecsLaws
+mod TreeRonCodecsLaws
+mod PlanCodecsLaws
+mod PlanJsonCodecsLaws
+mod PlanRonCodecsLaws
+mod ShelfCodecsLaws
+mod ShelfJsonCodecsLaws
+mod ShelfRonCodecsLaws

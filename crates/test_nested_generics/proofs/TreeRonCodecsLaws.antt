@@ -1,0 +1,34 @@
+-- Written by derive_files: what is proved of types that contain themselves.
+use Rattle.std.specs.Prelude.{◌≡◌, ℕ, codes, Vec}
+use Rattle.std.specs.Global.{Global}
+use Rattle.nano_schema.specs.declared.choices.Either.TheVariants.{First, Later}
+use Rattle.nano_schema_levels.proofs.NestedLaws.{text_seen}
+use Rattle.nano_ron.specs.Codec.{Codec, codec_as}
+use Rattle.nano_ron_schema.specs.VariantCodecs.{single_codec}
+use Rattle.nano_ron_schema.specs.Variants.{content_text}
+use Rattle.nano_ron_nested.specs.TypeCodecs.{list_codec}
+use Rattle.test_nested_generics.specs.declared.tree.Tree.{Tree}
+use Rattle.test_nested_generics.specs.TreeCodecs.{tree_view}
+use Rattle.test_nested_generics.specs.TreeRonCodecs.{tree_ron_nested, tree_ron}
+use Rattle.test_nested_generics.proofs.TreeCodecsLaws.{tree_view_leaf, tree_view_node}
+use Rattle.test_nested_generics.specs.declared.tree.Tree.{Leaf as Tree-Leaf}
+use Rattle.test_nested_generics.specs.declared.tree.Tree.{Node as Tree-Node}
+
+module _ {T : Type 0} (t_ron : Codec T) where
+  -- ==== Tree
+
+  pub tree_ron_text_leaf : (d : ℕ)
+      → (v : T)
+      → (tree_ron t_ron).canonical.text d (Tree-Leaf v)
+      ≡ content_text (codes "Leaf") ((single_codec t_ron).canonical.text d v)
+  tree_ron_text_leaf d v =
+      text_seen (tree_ron_nested t_ron) 128 d (Tree-Leaf v) (First v) (tree_view_leaf v)
+
+  pub tree_ron_text_node : (d : ℕ)
+      → (v : Vec (Tree T) Global)
+      → (tree_ron t_ron).canonical.text d (Tree-Node v)
+      ≡ content_text (codes "Node") ((single_codec (codec_as (λ (x : Vec (Tree T) Global). x.items) (list_codec (tree_ron t_ron)))).canonical.text d v)
+  tree_ron_text_node d v =
+      text_seen (tree_ron_nested t_ron) 128 d (Tree-Node v) (Later v) (tree_view_node v)
+
+pub ruleset tree_ron_texts = (tree_ron_text_leaf, tree_ron_text_node)

@@ -1,0 +1,9 @@
+pub mod TreeCodecs
+pub mod TreeJsonCodecs
+pub mod TreeRonCodecs
+pub mod PlanCodecs
+pub mod PlanJsonCodecs
+pub mod PlanRonCodecs
+pub mod ShelfCodecs
+pub mod ShelfJsonCodecs
+pub mod ShelfRonCodecs

@@ -1,0 +1,13 @@
+//! User-defined types that contain themselves and have type parameters, whose impls, definitions and
+//! proofs are written by `derive`.
+#![tactic(auto)]
+
+mod plan;
+mod shelf;
+#[cfg(test)]
+mod tests;
+mod tree;
+
+pub use plan::Plan;
+pub use shelf::Shelf;
+pub use tree::Tree;
