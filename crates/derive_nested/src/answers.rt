@@ -87,8 +87,8 @@ impl Own<'_, '_, '_> {
         Ok(self.files.push(Answers { path, text })?)
     }
 
-    /// Appends the answers for what reads and writes a format of texts: only the root takes those of
-    /// the reader.
+    /// Appends the answers for what reads and writes a format of texts: only the root takes those
+    /// of the reader.
     fn append_texts(
         &mut self,
         format: &TextTerms,

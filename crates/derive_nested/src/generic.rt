@@ -1,6 +1,6 @@
-//! The texts on a type with parameters, from those on one without: what is said of its shape is given
-//! the parameters, what is said of meanings what the values of the parameters mean, and what is said
-//! of a format stands in a module that has the codecs of the parameters.
+//! The texts on a type with parameters, from those on one without: what is said of its shape is
+//! given the parameters, what is said of meanings what the values of the parameters mean, and what
+//! is said of a format stands in a module that has the codecs of the parameters.
 
 use crate::generic_heads::headed;
 use crate::nested::Nested;

@@ -1,5 +1,5 @@
-//! The answers to what is to be proved of what writes each variant of an enum with parameters, which
-//! the search finds for a type without.
+//! The answers to what is to be proved of what writes each variant of an enum with parameters,
+//! which the search finds for a type without.
 
 use crate::answers::{Answers, HEAD, Place};
 use crate::codec_laws::law_end;
@@ -64,8 +64,8 @@ fn call_of(alloc: Global, writes: Writes, held: &Held<'_>) -> Result<String, All
     String::from_str(alloc, call)
 }
 
-/// The step of what writes a variant as bytes that comes before the last one, if it has several parts:
-/// the call, with its number where the same call comes before it.
+/// The step of what writes a variant as bytes that comes before the last one, if it has several
+/// parts: the call, with its number where the same call comes before it.
 fn step_before(alloc: Global, held: &Held<'_>) -> Result<Option<String>, AllocError> {
     let Some(last) = held.leaves.len().checked_sub(1) else {
         return Ok(None);
@@ -97,8 +97,8 @@ fn step_before(alloc: Global, held: &Held<'_>) -> Result<Option<String>, AllocEr
     Ok(Some(step))
 }
 
-/// The answers for what writes an enum with parameters, variant by variant, to goals whose names begin
-/// so, and the names of the laws that they cite. There are none for another type.
+/// The answers for what writes an enum with parameters, variant by variant, to goals whose names
+/// begin so, and the names of the laws that they cite. There are none for another type.
 fn arms(
     alloc: Global,
     nested: &Nested<'_>,

@@ -1,5 +1,5 @@
-//! The definitions of a type with parameters that stand outside of a module: each takes what it speaks
-//! of before all else.
+//! The definitions of a type with parameters that stand outside of a module: each takes what it
+//! speaks of before all else.
 
 use crate::generic::{Kind, name_of};
 use crate::nested::Nested;
@@ -7,7 +7,8 @@ use crate::parameters::coded_by;
 use crate::words::{Words, defined};
 use std::alloc::{AllocError, Global};
 
-/// What a definition outside of the module takes before all else: in its type, and in each equation.
+/// What a definition outside of the module takes before all else: in its type, and in each
+/// equation.
 fn taken(alloc: Global, nested: &Nested<'_>, kind: &Kind) -> Result<(String, String), AllocError> {
     let types = nested.types(alloc)?;
     let none = coded_by("");

@@ -1,5 +1,5 @@
-//! The answers to what is to be proved of the readers of a type with parameters: in each format but the
-//! first, what a value means is said as the first one says it.
+//! The answers to what is to be proved of the readers of a type with parameters: in each format but
+//! the first, what a value means is said as the first one says it.
 
 use crate::answers::{Answers, HEAD, Place};
 use crate::nested::Nested;
@@ -7,8 +7,8 @@ use crate::parameters::{Format, coded_by};
 use crate::text_codec::TextTerms;
 use std::alloc::{AllocError, Global};
 
-/// The answers for the reader of a type with parameters in a format of texts, if another format comes
-/// before it.
+/// The answers for the reader of a type with parameters in a format of texts, if another format
+/// comes before it.
 pub(crate) fn later_reader(
     alloc: Global,
     nested: &Nested<'_>,

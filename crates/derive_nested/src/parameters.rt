@@ -206,7 +206,8 @@ fn put_types(
     Ok(())
 }
 
-/// Puts what a value means, which meanings are legal, and what is said of the shape of a type alone.
+/// Puts what a value means, which meanings are legal, and what is said of the shape of a type
+/// alone.
 fn put_steps(
     alloc: Global,
     nested: &Nested<'_>,

@@ -31,8 +31,8 @@ pub(crate) struct Part {
     pub(crate) means_same: Option<String>,
     /// That its depth is that of the layer, if it takes a proof.
     pub(crate) depth_same: Option<String>,
-    /// That what is legal remains so, where what is legal for the type itself and for its parameters
-    /// does.
+    /// That what is legal remains so, where what is legal for the type itself and for its
+    /// parameters does.
     pub(crate) weaker: String,
     /// That its codec agrees with its values, if it has a parameter of the type.
     pub(crate) agrees: Option<String>,

@@ -1,5 +1,5 @@
-//! That what is legal remains so for a type with parameters, where what is legal for these and for the
-//! values of the type in it does: two formats of the type agree by it.
+//! That what is legal remains so for a type with parameters, where what is legal for these and for
+//! the values of the type in it does: two formats of the type agree by it.
 
 use crate::nested::Nested;
 use crate::parameters::coded_by;

@@ -52,8 +52,8 @@ impl Words {
         Ok(())
     }
 
-    /// A line with what stands for its words. A comment stands as it is, and so does what is between
-    /// quotes, and a word after a caret, which is left out.
+    /// A line with what stands for its words. A comment stands as it is, and so does what is
+    /// between quotes, and a word after a caret, which is left out.
     pub(crate) fn reworded(&self, alloc: Global, line: &str) -> Result<String, AllocError> {
         if line.starts_with("--") || line.starts_with("use ") {
             return String::from_str(alloc, line);

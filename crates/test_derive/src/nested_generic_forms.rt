@@ -1,5 +1,5 @@
-//! A source with a type that contains itself and has a type parameter, and lines that are written of
-//! it.
+//! A source with a type that contains itself and has a type parameter, and lines that are written
+//! of it.
 
 /// Lines of the module of the impls.
 pub(crate) const GENERIC_IMPLS: &str = r#"// nanoserde: bin json
