@@ -3,11 +3,10 @@
     answer(format, type, input) -> Outcome      a row of the tables, without its answer
     run(words, input) -> (status, stdout, stderr)      the program nano_show, both as bytes
 
-The formats are those of the column FORMAT in crates/conformance_run/README.md and of states.tsv.
-The type is the column TYPE: a type as Rust writes it; for `run` the words; calls for a state. The
-input is bytes, in which no `%XX` or `%*N(..)` is left. An Outcome has the columns VERDICT and
-ANSWER, with bytes outside 0x20 to 0x7e and `%` as `%XX`; where there is no such format or type, or
-a type has not this format, its verdict is `unknown`.
+The formats are those of the column FORMAT in crates/conformance_run/README.md and of states.tsv. The type is the column
+TYPE: a type as Rust writes it; for `run` the words; calls for a state. The input is bytes, in which no `%XX` or
+`%*N(..)` is left. An Outcome has the columns VERDICT and ANSWER, with bytes outside 0x20 to 0x7e and `%` as `%XX`;
+where there is no such format or type, or a type has not this format, its verdict is `unknown`.
 """
 from typing import NamedTuple
 

@@ -1,7 +1,4 @@
-"""JSON: its tokens, and how it reads and writes what RON does otherwise.
-
-The sections JSON tokens and JSON types of docs/FORMATS.md.
-"""
+"""JSON: its tokens, and how it reads and writes what RON does otherwise. JSON tokens and types in docs/FORMATS.md."""
 import re
 
 from . import values

@@ -1,9 +1,8 @@
 """The types by the names that the tables use, as small trees.
 
-A value is an int, a bool, a str, or a tuple: of the items of a list, of the parts of a tuple, of
-the fields of a struct; `(v,)` is Some(v), and `()` both None and the unit; a set is the tuple of
-its items ascending, a map that of its pairs ascending by key; an enum is its index and its
-content. So two values of a type compare as they do in Rust.
+A value is an int, a bool, a str, or a tuple: of the items of a list, of the parts of a tuple, of the fields of a
+struct; `(v,)` is Some(v), and `()` both None and the unit; a set is the tuple of its items ascending, a map that of its
+pairs ascending by key; an enum is its index and its content. So two values of a type compare as they do in Rust.
 """
 import functools
 import re
@@ -27,8 +26,7 @@ class Type(NamedTuple):
 
 
 class Field(NamedTuple):
-    """A named field. `kind` says what a missing one is: `required`, `optional`, which is `None`
-    and then is not written, or `default`."""
+    """A named field. `kind` says what a missing one is: `required`, `optional` (`None`, not written) or `default`."""
 
     name: str
     aliases: list  # other names under which it is read
@@ -59,23 +57,25 @@ ALIASES = {
     "Tagged": "Tagged<i32, String>", "Reply": "Reply<i32, String>",
 }
 
-# The types of the tables in docs/FORMATS.md. A field is `name|alias: type`, and its default if it has
-# one. A skipped field is neither read nor written, so it is no field here. A variant is a name, its
-# parts or its fields.
+# The types of the tables in docs/FORMATS.md. A field is `name|alias: type`, and its default if it has one. A skipped
+# one is neither read nor written, so it is no field here. A variant is a name, its parts or its fields.
 STRUCTS = {
     "Item": ["value: i32", "note: Option<String>"], "Holder": ["x: A"],
     "Server": ["host: String", "port: u16", "tags: Tags", "limits: Limits", "note: Option<String>"],
     "Site": ["host: String", ("port: u16", 8080), ("first: String", "index"),
              ("tags: Vec<String>", ()), ("owner: Option<String>", ())],
     "Moved": ["host|hostname: String", "contact|owner|admin: Option<String>", ("port|tcp_port: u16", 8080)],
-    "Proxy": ["host|hostname: String", "port: Option<u16>"],
-    "Clock": [("offset: i32", -5), ("running: bool", True)],
+    "Clock": [("offset: i32", -5), ("running: bool", True)], "Folder": ["name: String", "folders: Vec<Folder>"],
+    "Proxy": ["host|hostname: String", "port: Option<u16>"], "Chain": ["number: u32", "next: Option<Box<Chain>>"],
     "Marker": [], "Empty": [], "Count": [], "Menu": ["title: String", "entries: BTreeMap<String, Menu>"],
     "Trip": ["there: Marker", "new: Option<Empty>", "steps: Vec<Step>"],
     "Hall": ["visits: Visits", "greetings: Greetings", "taken: Seats"],
     "Tagged": ["first: A", "other: Option<B>", "more: Vec<A>", ("times: u32", 1)],
-    "Chain": ["number: u32", "next: Option<Box<Chain>>"], "Folder": ["name: String", "folders: Vec<Folder>"],
     "Branch": ["then: Statement", "otherwise: Option<Box<Statement>>"],
+    "Widget": ["title: String", ("shortcut: String", "none"), ("width: u16", 80), ("row: i32", -1),
+               ("is_open: bool", True), ("entries: Vec<Widget>", ()), ("others: BTreeMap<String, Widget>", ())],
+    "Node": ["name: String", "at: [i32; 3]", "size: (u32, u32)", "tags: BTreeSet<String>", "groups: HashSet<u16>",
+             "effects: HashMap<String, u32>", "path: LinkedList<(String, u8)>", "children: Vec<Node>"],
 }
 ENUMS = {
     "Choice": ["A", "B(i32, String)", {"C": ["a: i32", "b: String"]}],
@@ -87,6 +87,9 @@ ENUMS = {
     "Change": ["Started", {"Renamed": ["from|old: String", "to: String"]}],
     "Step": [{"Rest": []}, "Walk(u16)", {"Stop": []}], "Role": ["Guest", "Member", "Moderator", "Owner"],
     "Reply": ["Found(A)", "Failed(B, u32)", {"Listed": ["items: Vec<A>", "next: Option<B>"]}],
+    "Term": ["Number(i64)", "Call(String, Vec<Argument>)", "If(Box<Term>, Box<Term>, Box<Term>)",
+             "Repeat(u32, bool, Box<Term>)"],
+    "Argument": ["Plain(Term)", {"Named": ["name: String", "value: Option<Box<Term>>"]}, "Rest"],
     "Statement": ["Assign(String, i32)", "Block(Vec<Statement>)", "If(Box<Branch>)"],
     "Expression": ["Number(i64)", "Negated(Box<Expression>)", "Sum(Box<Expression>, Box<Expression>)"],
     "Rule": ["Always", "From(u8)",
@@ -95,7 +98,7 @@ ENUMS = {
              "Object(entries<String, Json>)"],
 }
 # These contain themselves; a value of each has at most so many levels, itself being the first.
-NESTED = dict.fromkeys(("Tree", "Expression", "Chain", "Folder", "Menu", "Statement", "Json"), 128) | {"Rule": 5}
+NESTED = dict.fromkeys("Tree Expression Chain Folder Menu Statement Widget Term Node Json".split(), 128) | {"Rule": 5}
 STRICT = {"Proxy"}  # these are `deny_unknown`
 PARAMETERS = {"Holder": 1, "Tagged": 2, "Reply": 2}
 ONLY = {"Command": "bin", "Message": "json", "u128": "bin", "i128": "bin", "Json": "bin json"}  # not all formats

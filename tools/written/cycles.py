@@ -25,8 +25,9 @@ def cycle_of(found, name):
     """The types that contain this one and that it contains, with itself if it contains itself, and their root."""
     names = [other for _, other, *_ in found if other in reached(found, name) and name in reached(found, other)]
     kinds = {other: kind for kind, other, *_ in found}
+    roots = []
     for root in names:
         others = [other for other in names if other != root]
-        if all(kinds[other] == "struct" and other not in reached(found, other, root) for other in others):
-            return names, root
-    return names, None
+        if not any(other in reached(found, other, root) for other in others):
+            roots.append((any(kinds[other] == "enum" for other in others), names.index(root), root))
+    return names, min(roots)[2] if roots else None

@@ -38,6 +38,15 @@ GENERIC = [
 ]
 # What a type that contains itself is made of, where `$` is the type.
 PLAIN = ["u8", "i64", "bool", "String", "()", "Mode", "Place", "Here"]
+COLLECTIONS = [
+    "(u8, String)",
+    "[i64; 3]",
+    "[(Mode, u8); 2]",
+    "LinkedList<(Place, [bool; 1], Vec<u8>)>",
+    "HashSet<String>",
+    "BTreeSet<i64>",
+    "HashMap<u8, (String, Here, u8, bool)>",
+]
 GIVEN = {"u8": "7", "i64": "-5", "bool": "true", "String": "some text"}
 AROUND = ["{}", "Vec<{}>", "Option<{}>", "Box<{}>", "Vec<Option<{}>>"]
 ITSELF = ["Vec<$>", "Box<$>", "Option<Box<$>>", "Option<Vec<$>>", "Vec<Box<$>>", "Vec<Vec<$>>"]
@@ -93,7 +102,7 @@ def drawn_fields(draw, types, names, in_line):
 def drawn_parts(draw, name, names):
     """The types of so many parts of a type of this name, of which some hold the type itself."""
     held = draw.sample(names, draw.randrange(len(names) + 1))
-    plain = lambda: draw.choice(AROUND).format(draw.choice(PLAIN))
+    plain = lambda: draw.choice(AROUND).format(draw.choice(PLAIN if draw.random() < 0.7 else COLLECTIONS))
     return [draw.choice(ITSELF).replace("$", name) if part in held else plain() for part in names]
 
 
@@ -111,26 +120,31 @@ def drawn_nested_fields(draw, name, names, in_line):
     return lines
 
 
-def drawn_around(draw, name, formats, words):
-    """A struct that holds a type of this name, which holds it."""
+def drawn_around(draw, name, formats, words, is_enum):
+    """A struct that holds a type of this name, which holds it, or an enum if that is one."""
     fields = drawn_nested_fields(draw, name, draw.sample(words, draw.randrange(4)), "pub ")
-    lines = [f"// nanoserde: {formats}", "#[derive(Drop)]", "#[cycle(n)]", f"pub struct R{name} {{", *fields]
-    return lines + [f"    pub root: {draw.choice(['$', *ITSELF]).replace('$', name)},", "}"]
+    lines = [f"// nanoserde: {formats}", "#[derive(Drop)]", "#[cycle(n)]"]
+    held = draw.choice(["$", *ITSELF]).replace("$", name)
+    if not is_enum or draw.random() < 0.5:
+        return lines + [f"pub struct R{name} {{", *fields, f"    pub root: {held},", "}"]
+    inner = [f"        {field.strip().removeprefix('pub ')}" for field in fields]
+    named = ["    Named {", *inner, "    },"] if fields else ["    Plain,"]
+    return lines + [f"pub enum R{name} {{", *named, f"    Root({held}),", "}"]
 
 
 def drawn_nested(draw, name, formats, words):
     """A struct or an enum of this name, with a part that holds the type itself, or a struct that does."""
     levels = f', levels = "{draw.randrange(1, 129)}"' if draw.random() < 0.3 else ""
     lines = [f"// nanoserde: {formats}{levels}", "#[derive(Drop)]"]
-    around = []
+    around, is_struct = [], draw.random() < 0.4
     if draw.random() < 0.4:
         lines.append("#[cycle(n)]")
-        around = drawn_around(draw, name, formats, words)
+        around = drawn_around(draw, name, formats, words, not is_struct)
     parameters = [] if around else draw.sample(["T", "Key", "V2"], draw.choice([0, 0, 1, 2]))
     name += f"<{', '.join(parameters)}>" * bool(parameters)
     held = [draw.choice(AROUND).format(parameter) for parameter in parameters]
     itself = draw.choice(ITSELF).replace("$", f"R{name}" if around else name)
-    if draw.random() < 0.4:
+    if is_struct:
         fields = drawn_nested_fields(draw, name, draw.sample(words, draw.randrange(5)), "pub ")
         fields += [f"    pub held_{place}: {type}," for place, type in enumerate(held)]
         return lines + [f"pub struct {name} {{", *fields, f"    pub itself: {itself},", "}", *around]
@@ -142,7 +156,7 @@ def drawn_nested(draw, name, formats, words):
         if kind == 0:
             lines.append(f"    {variant},")
         elif kind == 1:
-            places = list(range(draw.randrange(1, 3 if in_text else 5)))
+            places = list(range(draw.randrange(1, 4 if in_text else 5)))
             parts = drawn_parts(draw, name, places)
             lines.append(f"    {variant}({', '.join(parts)}),")
         else:
@@ -168,7 +182,7 @@ def drawn(draw, number):
     lines = [
         "use crate::mode::Mode;",
         "use crate::map::place::{City, Place};",
-        "use std::collections::{BTreeMap, LinkedList};",
+        "use std::collections::{BTreeMap, BTreeSet, HashMap, HashSet, LinkedList};",
         f"// nanoserde: {formats}",
         "#[derive(Drop)]",
         "pub struct Here(pub u8);",

@@ -2,8 +2,8 @@
 
 use crate::agreement::{Agreement, agreed_of};
 use crate::tuples::{PLACES, named};
-use crate::types::{LibraryType, argument_of, listed, tuple_parts, type_text};
-use derive_syntax::{Fault, Token, Type};
+use crate::types::{LibraryType, argument_of, type_text};
+use derive_syntax::{Fault, Token, Type, listed, tuple_parts};
 use std::alloc::{AllocError, Global};
 
 /// A type of the library that holds values of another one, and agrees as that does.

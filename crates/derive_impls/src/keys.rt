@@ -5,9 +5,8 @@ use crate::key_names::CITED;
 use crate::sheet::Sheet;
 use crate::target::Target;
 use crate::tuples::{PLACES, named};
-use crate::types::{listed, tuple_parts};
 use crate::views::imports_of;
-use derive_syntax::{Fault, Holes, Shape, Token, Type, Variant};
+use derive_syntax::{Fault, Holes, Shape, Token, Type, Variant, listed, tuple_parts};
 use std::alloc::{AllocError, Global};
 
 /// The ghost terms of a type that is a key.

@@ -44,10 +44,9 @@ pub(crate) fn answers_of(
         nested,
         files: &mut files,
     };
-    if nested.is_enum {
-        let known = known_answers(alloc, nested, &place, file.as_str())?;
-        own.append(first.name, Some(known))?;
-    } else if nested.is_generic() {
+    let known = known_answers(alloc, members, &place, file.as_str())?;
+    own.append(first.name, known)?;
+    if !nested.is_enum && nested.is_generic() {
         let known = known_struct(alloc, module, nested, (&place, file.as_str()))?;
         own.append(first.name, Some(known))?;
     }

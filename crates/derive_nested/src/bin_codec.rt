@@ -43,11 +43,11 @@ fn layer(alloc: Global, nested: &Nested<'_>) -> Result<String, AllocError> {
 const VARIANTS: &str = "
 -- ---- as bytes: the layer around the values in it, and the codec
 
-abbrev pub $SNAKE_variants : ChoiceLayer $NAME ($NAMEContent $NAME)
+abbrev pub $SNAKE_variants : ChoiceLayer $ROOT ($NAMEContent $ROOT)
 $SNAKE_variants =
     $LAYER
 
-abbrev pub $SNAKE_layer : Layer $NAME ($NAMEContent $NAME)
+abbrev pub $SNAKE_layer : Layer $ROOT ($NAMEContent $ROOT)
 $SNAKE_layer = choice_layer $SNAKE_variants (λ f. lit≤ tt)
 ";
 

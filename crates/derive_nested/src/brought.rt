@@ -168,9 +168,9 @@ pub(crate) fn cited_lines(
     let (name, snake) = (nested.names.of.as_str(), nested.names.snake.as_str());
     let of = format!(in alloc; "use Rattle.{module}.{name}")?;
     let specs = specs_of(alloc, module)?;
-    let levels = levels_name(nested);
+    let levels = levels_of(alloc, nested, "")?;
     let codec = if has_bin {
-        format!(in alloc; ", {snake}_means, {snake}_{levels}, {snake}_codec")?
+        format!(in alloc; ", {snake}_means, {levels}, {snake}_codec")?
     } else {
         String::new(alloc)
     };
@@ -184,12 +184,14 @@ pub(crate) fn cited_lines(
     Ok(lines)
 }
 
-/// With what the name of the record of a type's levels ends in bytes, or that of it as a layer.
-fn levels_name(nested: &Nested<'_>) -> &'static str {
-    if nested.is_around() {
-        "around"
-    } else {
-        "nested"
+/// The name of the record of a type's levels with this infix of a format, or that of it as a layer:
+/// of an enum beside that of what it is seen as.
+fn levels_of(alloc: Global, nested: &Nested<'_>, infix: &str) -> Result<String, AllocError> {
+    let snake = nested.names.snake.as_str();
+    match (nested.is_around(), nested.is_enum) {
+        (false, _) => format!(in alloc; "{snake}_{infix}nested"),
+        (true, false) => format!(in alloc; "{snake}_around"),
+        (true, true) => format!(in alloc; "{snake}_around, {snake}_{infix}layer"),
     }
 }
 
@@ -236,8 +238,7 @@ pub(crate) fn text_cited(
     let views = views_line(alloc, module, nested)?;
     let mut holes = format.holes(alloc, nested)?;
     put_modules(&mut holes, alloc, module, nested)?;
-    let levels = if nested.is_around() { AROUND } else { NESTED };
-    let levels = holes.fill(levels)?;
+    let levels = levels_of(alloc, nested, format.coded.infix)?;
     holes.put("OWN_LEVELS", levels.as_str());
     holes.put("SPECS", specs.as_str());
     holes.put("LIBRARY", library);
@@ -253,10 +254,6 @@ const TEXT_CITED: &str = "$OF.{$NAME}
 $SPECS.{$SNAKE_view$MEANS}
 use Rattle.$LIBRARY.specs.$FILE.{$OWN_LEVELS, $SNAKE_$SUFFIX$FIELDS}
 $VIEWS$PARTS";
-
-const NESTED: &str = "$SNAKE_$INFIXnested";
-
-const AROUND: &str = "$SNAKE_around";
 
 /// The names of the layers of the named fields of variants, each after a comma.
 pub(crate) fn content_names(

@@ -3,7 +3,7 @@
 use crate::imports::Known;
 
 /// Those that every format cites.
-pub(crate) const SHARED: [Known; 23] = [
+pub(crate) const SHARED: [Known; 29] = [
     Known {
         module: "std.specs.Prelude",
         names: &[
@@ -38,6 +38,26 @@ pub(crate) const SHARED: [Known; 23] = [
     Known {
         module: "std.specs.BTreeMap",
         names: &["BTreeMap"],
+    },
+    Known {
+        module: "std.specs.BTreeSet",
+        names: &["BTreeSet"],
+    },
+    Known {
+        module: "std.specs.HashMap",
+        names: &["HashMap"],
+    },
+    Known {
+        module: "std.specs.HashSet",
+        names: &["HashSet"],
+    },
+    Known {
+        module: "std.specs.declared.hash.BuildHasherDefault",
+        names: &["BuildHasherDefault"],
+    },
+    Known {
+        module: "std.specs.declared.hash.FoldHasher",
+        names: &["FoldHasher"],
     },
     Known {
         module: "std.specs.Global",
@@ -94,8 +114,13 @@ pub(crate) const SHARED: [Known; 23] = [
             "LegalText",
             "LegalOption",
             "LegalList",
+            "LegalArray",
             "LegalPair",
         ],
+    },
+    Known {
+        module: "nano_value.specs.Sets",
+        names: &["LegalSet", "item_set", "set_means"],
     },
     Known {
         module: "nano_value.specs.Sums",
@@ -103,11 +128,11 @@ pub(crate) const SHARED: [Known; 23] = [
     },
     Known {
         module: "nano_value.specs.Ordered",
-        names: &["ordered_map_means"],
+        names: &["ordered_map_means", "ordered_means"],
     },
     Known {
         module: "nano_value.specs.Tables",
-        names: &["LegalMap"],
+        names: &["LegalMap", "table_means", "table_of"],
     },
     Known {
         module: "nano_meaning.proofs.OrderLaws",
@@ -173,7 +198,7 @@ pub(crate) const SHARED: [Known; 23] = [
 ];
 
 /// Those of bytes.
-pub(crate) const BYTES: [Known; 15] = [
+pub(crate) const BYTES: [Known; 16] = [
     Known {
         module: "nano_bin_bytes.specs.Codec",
         names: &["Codec"],
@@ -213,9 +238,13 @@ pub(crate) const BYTES: [Known; 15] = [
         module: "nano_bin.specs.ContainerCodecs",
         names: &[
             "list_codec",
+            "list_codec as linked_codec",
+            "map_codec",
             "option_codec",
+            "ordered_codec",
             "ordered_map_codec",
             "pair_codec",
+            "set_codec",
         ],
     },
     Known {
@@ -256,7 +285,11 @@ pub(crate) const BYTES: [Known; 15] = [
         names: &["pair_layer"],
     },
     Known {
+        module: "nano_bin_nested.specs.TupleCodecs",
+        names: &["array_codec", "quadruple_codec", "triple_codec"],
+    },
+    Known {
         module: "nano_bin_nested.proofs.NestedLaws",
-        names: &["seen_legal", "written_seen"],
+        names: &["layer_legal", "layer_written", "seen_legal", "written_seen"],
     },
 ];

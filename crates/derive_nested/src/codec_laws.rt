@@ -157,8 +157,13 @@ fn variant_laws(
     let (end, values) = (law_end(alloc, held)?, held.values(alloc)?);
     let parts = binders(alloc, nested, held)?;
     let Variant { value, seen, view } = variant_at(alloc, nested, held, i)?;
+    let law = if nested.is_around() {
+        format!(in alloc; "layer_written {}", layer_of(alloc, nested)?)?
+    } else {
+        format!(in alloc; "written_seen {snake}_nested")?
+    };
     let of = format!(in alloc;
-        "{snake}_nested {value} {} {}",
+        "{law} {value} {} {}",
         atom(alloc, seen.as_str())?,
         atom(alloc, view.as_str())?
     )?;
@@ -181,17 +186,28 @@ pub $SNAKE_written_$END : $PARTS$SNAKE_codec.canonical.written $VALUE
     ≡ little_endian 2 $PLACE
     ++ $WRITTEN
 $SNAKE_written_$END$GIVEN =
-    written_seen $LAW
+    $LAW
 $LEGAL";
 
 /// What bytes call legal.
 fn bytes(alloc: Global, nested: &Nested<'_>) -> Result<Known, AllocError> {
     let snake = nested.names.snake.as_str();
+    let law = if nested.is_around() {
+        format!(in alloc; "layer_legal {}", layer_of(alloc, nested)?)?
+    } else {
+        format!(in alloc; "seen_legal {snake}_nested")?
+    };
     Ok(Known {
         codec: format!(in alloc; "{snake}_codec")?,
         within: format!(in alloc; "{}_codec", nested.root().snake)?,
-        law: format!(in alloc; "seen_legal {snake}_nested")?,
+        law,
     })
+}
+
+/// How a type is seen that is around values of the root, its layer, and the codec of the root.
+fn layer_of(alloc: Global, nested: &Nested<'_>) -> Result<String, AllocError> {
+    let (snake, root) = (nested.names.snake.as_str(), nested.root().snake.as_str());
+    format!(in alloc; "{snake}_view {snake}_layer {root}_codec")
 }
 
 /// A term with the codec of the type itself in its hole.

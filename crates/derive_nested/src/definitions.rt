@@ -1,6 +1,7 @@
 //! The definitions of a type that contains itself that no format changes: what a value is seen as,
 //! what it means, how deep it is, and which meanings are legal.
 
+use crate::around::around_means;
 use crate::held::Held;
 use crate::nested::Nested;
 use crate::weaker::weaker;
@@ -172,11 +173,7 @@ fn folded(alloc: Global, nested: &Nested<'_>) -> Result<String, AllocError> {
         text.push_str(holes.fill(DEPTH)?.as_str())?;
         return Ok(text);
     }
-    let mut said = String::new(alloc);
-    for held in &nested.contents {
-        said.push_str(held.row.part.means.as_str())?;
-    }
-    holes.put("SAID", said.as_str());
+    holes.put("SAID", around_means(alloc, nested)?.as_str());
     holes.fill(FOLDED)
 }
 
@@ -190,7 +187,7 @@ $SNAKE_depth_folded = fold-$NAME $AS_DEPTHS $ALL_DEPTHS
 
 abbrev pub $SNAKE_means : $NAME → Meaning
 $SNAKE_means x =
-    (λ (y : $NAME-F $TYPES). $SAID) (out-$NAME x)
+    $SAID
 ";
 
 /// What a value of a variant at its place means, or one of the struct.

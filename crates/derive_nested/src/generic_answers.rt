@@ -59,7 +59,8 @@ fn call_of(alloc: Global, writes: Writes, held: &Held<'_>) -> Result<String, All
         (_, 0, _) => "write_unit_variant",
         (_, 1, true) => "write_variant_within",
         (_, 1, false) => "write_variant_other",
-        _ => "write_pair_within",
+        (_, 2, _) => "write_pair_within",
+        _ => "write_triple_within",
     };
     String::from_str(alloc, call)
 }

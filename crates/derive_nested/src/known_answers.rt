@@ -10,21 +10,26 @@ use crate::nested::Nested;
 use crate::wrapped::atom;
 use std::alloc::{AllocError, Global};
 
-/// The answers for that function of an enum, by the laws beside the definitions of this name.
+/// The answers for that function of the enums among types that contain each other, or of one that
+/// contains itself, by the laws beside the definitions of this name.
 pub(crate) fn known_answers(
     alloc: Global,
-    nested: &Nested<'_>,
+    members: &[Nested<'_>],
     place: &Place<'_>,
     file: &str,
-) -> Result<Answers, AllocError> {
-    let of = format!(in alloc; "{}Value", nested.names.of)?;
-    let of = (of.as_str(), "known", "known", "");
-    let Goals {
-        path,
-        module,
-        prefix,
-    } = goals_of(alloc, nested, place, of)?;
-    let (cited, answers) = answered(alloc, nested, prefix.as_str())?;
+) -> Result<Option<Answers>, AllocError> {
+    let mut cited = String::new(alloc);
+    let mut answers = String::new(alloc);
+    for nested in members {
+        if nested.is_enum {
+            let Goals { prefix, .. } = known_goals(alloc, nested, place)?;
+            append_answered(alloc, nested, prefix.as_str(), (&mut cited, &mut answers))?;
+        }
+    }
+    let (Some(nested), false) = (members.last(), answers.is_empty()) else {
+        return Ok(None);
+    };
+    let Goals { path, module, .. } = known_goals(alloc, nested, place)?;
     let mut holes = nested.holes(alloc);
     holes.put("HEAD", HEAD);
     holes.put("LIBRARY", place.library);
@@ -34,10 +39,16 @@ pub(crate) fn known_answers(
     holes.put("BROUGHT", brought.as_str());
     holes.put("GOALS", module.as_str());
     holes.put("ANSWERS", answers.as_str());
-    Ok(Answers {
+    Ok(Some(Answers {
         path,
         text: holes.fill(KNOWN_ANSWERS)?,
-    })
+    }))
+}
+
+/// The goals of that function of a type.
+fn known_goals(alloc: Global, nested: &Nested<'_>, place: &Place<'_>) -> Result<Goals, AllocError> {
+    let of = format!(in alloc; "{}Value", nested.names.of)?;
+    goals_of(alloc, nested, place, (of.as_str(), "known", "known", ""))
 }
 
 const KNOWN_ANSWERS: &str = "\
@@ -85,21 +96,20 @@ pub(crate) const AGREED: [Known; 5] = [
     },
 ];
 
-/// The names of the laws of the variants, and the answers by them.
-fn answered(
+/// Appends the names of the laws of the variants of an enum, and the answers by them.
+fn append_answered(
     alloc: Global,
     nested: &Nested<'_>,
     prefix: &str,
-) -> Result<(String, String), AllocError> {
-    let mut cited = String::new(alloc);
-    let mut answers = String::new(alloc);
+    (cited, answers): (&mut String, &mut String),
+) -> Result<(), AllocError> {
     for (i, held) in nested.contents.iter().enumerate() {
         let law = format!(in alloc; "{}_legal_{}", nested.names.snake, law_end(alloc, held)?)?;
-        let before = if i == 0 { "" } else { ", " };
+        let before = if cited.is_empty() { "" } else { ", " };
         cited.push_str(format!(in alloc; "{before}{law}")?.as_str())?;
         answers.push_str(answer(alloc, held, i == 0, (prefix, law.as_str()))?.as_str())?;
     }
-    Ok((cited, answers))
+    Ok(())
 }
 
 /// The answer for a variant, the first one or another, to a goal whose name begins so, by this law.

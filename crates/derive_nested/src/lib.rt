@@ -4,6 +4,7 @@
 #![tactic(auto)]
 
 mod answers;
+mod around;
 mod bin_codec;
 mod bodies;
 mod brought;
@@ -11,6 +12,7 @@ mod cases;
 mod cited;
 mod codec_laws;
 mod coded;
+mod containers;
 mod cycle;
 mod definitions;
 mod failed_steps;
@@ -26,6 +28,7 @@ mod held;
 mod imports;
 mod json_answers;
 mod json_rows;
+mod keys;
 mod known_answers;
 mod known_struct;
 mod legal_laws;

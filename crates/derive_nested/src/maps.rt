@@ -1,80 +1,9 @@
 //! What is said of an ordered map, from what is said of its keys and its values.
 
-use crate::part::{Names, Part, plain_part};
+use crate::keys::{Keys, keys_of};
+use crate::part::{Names, Part};
 use crate::wrapped::{at, atom, function, layered, seen_agreeing, steps};
 use std::alloc::{AllocError, Global};
-
-/// What is said of the keys of a map, as ghost terms.
-#[derive(Drop)]
-struct Keys {
-    /// Their type.
-    of: String,
-    /// Their codec.
-    codec: String,
-    /// Which meanings are legal.
-    legal: String,
-    /// What they mean, as a function of them.
-    means: String,
-    /// How they are ordered.
-    order: Order,
-}
-
-/// How keys are ordered, as ghost terms.
-#[derive(Clone, Copy)]
-struct Order {
-    /// The order of their meanings.
-    meanings: &'static str,
-    /// How two of them compare.
-    compare: &'static str,
-    /// That they compare as their meanings do.
-    follows: &'static str,
-}
-
-const TEXTS: Order = Order {
-    meanings: "texts",
-    compare: "string_cmp",
-    follows: "(texts_follow (λ x. string_bytes x))",
-};
-
-const TRUTHS: Order = Order {
-    meanings: "wholes",
-    compare: "bool_cmp",
-    follows: "truths_follow",
-};
-
-const SIGNED: Order = Order {
-    meanings: "numbers",
-    compare: "int_cmp",
-    follows: "signed_follow",
-};
-
-const UNSIGNED: Order = Order {
-    meanings: "wholes",
-    compare: "nat_cmp",
-    follows: "unsigned_follow",
-};
-
-/// How keys of a type of Rust's are ordered, by its name.
-fn order_of(key: &str) -> Order {
-    match key {
-        "String" => TEXTS,
-        "bool" => TRUTHS,
-        "i8" | "i16" | "i32" | "i64" => SIGNED,
-        _ => UNSIGNED,
-    }
-}
-
-/// What is said of keys of a type of Rust's, by its name.
-fn keys_of(alloc: Global, key: &str) -> Result<Keys, AllocError> {
-    let part = plain_part(alloc, key)?;
-    Ok(Keys {
-        of: atom(alloc, part.of.as_str())?,
-        codec: atom(alloc, part.codec.as_str())?,
-        legal: atom(alloc, part.legal.as_str())?,
-        means: function(alloc, part.means.as_str())?,
-        order: order_of(key),
-    })
-}
 
 /// What is said of a map from keys of a type of Rust's, by its name.
 pub(crate) fn mapped(

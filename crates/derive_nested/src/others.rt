@@ -4,7 +4,7 @@
 use crate::bodies::{Body, File};
 use crate::held::Held;
 use crate::nested::Nested;
-use derive_syntax::{Case, Core, Source, crate_of};
+use derive_syntax::{Case, Source, crate_of};
 use std::alloc::{AllocError, Global};
 
 /// Another user-defined type.
@@ -63,19 +63,27 @@ fn add_others<'a>(
     others: &mut Vec<Other>,
 ) -> Result<(), AllocError> {
     for leaf in &held.leaves {
-        let Core::Other(name) = leaf.nested.core else {
-            continue;
-        };
-        if has(others, name) {
-            continue;
+        for name in &leaf.nested.others {
+            if !has(others, *name) {
+                others.push(other_of(alloc, module, source, *name)?)?;
+            }
         }
-        others.push(Other {
-            name: String::from_str(alloc, name)?,
-            snake: Case::Snake.of_variant(alloc, name)?,
-            module: module_of_other(alloc, module, source, name)?,
-        })?;
     }
     Ok(())
+}
+
+/// Another type of this name, within a type of a module.
+fn other_of(
+    alloc: Global,
+    module: &str,
+    source: &Source<'_>,
+    name: &str,
+) -> Result<Other, AllocError> {
+    Ok(Other {
+        name: String::from_str(alloc, name)?,
+        snake: Case::Snake.of_variant(alloc, name)?,
+        module: module_of_other(alloc, module, source, name)?,
+    })
 }
 
 /// The module of another type, by a line that brings it in, or the one of the file.

@@ -92,6 +92,7 @@ pub(crate) fn core_part(alloc: Global, names: &Names, core: Core<'_>) -> Result<
         Core::Plain(name) => plain_part(alloc, name),
         Core::Other(name) => user_part(alloc, name),
         Core::Parameter(name) => parameter_part(alloc, name),
+        Core::Container(_) => nothing_part(alloc),
     }
 }
 
@@ -173,7 +174,7 @@ pub(crate) fn nothing_part(alloc: Global) -> Result<Part, AllocError> {
 }
 
 /// What is said of a type that holds no values of the type itself.
-fn other_part(
+pub(crate) fn other_part(
     alloc: Global,
     (of, codec, means, legal): (&str, &str, &str, &str),
 ) -> Result<Part, AllocError> {

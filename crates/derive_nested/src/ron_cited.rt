@@ -18,7 +18,18 @@ pub(crate) const RON: [Known; 13] = [
     },
     Known {
         module: "nano_ron.specs.ContainerCodecs",
-        names: &["option_codec", "ordered_map_codec", "pair_codec"],
+        names: &[
+            "array_codec",
+            "linked_codec",
+            "map_codec",
+            "option_codec",
+            "ordered_codec",
+            "ordered_map_codec",
+            "pair_codec",
+            "quadruple_codec",
+            "set_codec",
+            "triple_codec",
+        ],
     },
     Known {
         module: "nano_ron_tokens.specs.Token",

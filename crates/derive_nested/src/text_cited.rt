@@ -54,11 +54,11 @@ pub(crate) const TEXTS: [Known; 13] = [
     },
     Known {
         module: "nano_schema_levels.proofs.NestedLaws",
-        names: &["legal_seen", "text_seen"],
+        names: &["layer_legal", "layer_text", "legal_seen", "text_seen"],
     },
     Known {
         module: "nano_schema_levels.proofs.PartLaws",
-        names: &["pair_layer", "seen_layer", "single_layer"],
+        names: &["pair_layer", "seen_layer", "single_layer", "triple_layer"],
     },
     Known {
         module: "nano_schema_levels.proofs.VariantLayersLaws",
@@ -89,10 +89,17 @@ pub(crate) const JSON: [Known; 11] = [
     Known {
         module: "nano_json.specs.ContainerCodecs",
         names: &[
+            "array_codec",
             "list_codec",
+            "list_codec as linked_codec",
+            "map_codec",
             "option_codec",
+            "ordered_codec",
             "ordered_map_codec",
             "pair_codec",
+            "quadruple_codec",
+            "set_codec",
+            "triple_codec",
         ],
     },
     Known {

@@ -47,10 +47,15 @@ fn legal_law(
     (held, i): (&Held<'_>, usize),
 ) -> Result<String, AllocError> {
     let (snake, end, infix) = (nested.names.snake.as_str(), format.name, format.coded.infix);
+    let law = if nested.is_around() {
+        format!(in alloc; "layer_legal {}", layer_of(alloc, nested, format)?)?
+    } else {
+        format!(in alloc; "legal_seen {snake}_{infix}nested {}", nested.limit)?
+    };
     let known = Known {
         codec: format!(in alloc; "{snake}_{end}")?,
         within: format!(in alloc; "{}_{end}", nested.root().snake)?,
-        law: format!(in alloc; "legal_seen {snake}_{infix}nested {}", nested.limit)?,
+        law,
     };
     if nested.is_enum {
         variant_legal(alloc, nested, (held, i), &known)
@@ -58,6 +63,13 @@ fn legal_law(
         struct_legal(alloc, nested, held, &known)
     }
 }
+
+/// How a type is seen that is around values of the root, its layer, and the codec of the root.
+fn layer_of(alloc: Global, nested: &Nested<'_>, format: &TextTerms) -> Result<String, AllocError> {
+    format.holes(alloc, nested)?.fill(LAYER)
+}
+
+const LAYER: &str = "$SNAKE_view $SNAKE_$INFIXlayer $BASE_$SUFFIX";
 
 /// The laws by which an enum is written, as a set.
 fn texts(alloc: Global, nested: &Nested<'_>, format: &TextTerms) -> Result<String, AllocError> {
@@ -110,7 +122,13 @@ fn variant_law(
     let (end, values) = (law_end(alloc, held)?, held.values(alloc)?);
     let parts = binders(alloc, nested, held)?;
     let written = written(alloc, nested, format, held)?;
+    let law = if nested.is_around() {
+        format!(in alloc; "layer_text {}", layer_of(alloc, nested, format)?)?
+    } else {
+        format.holes(alloc, nested)?.fill(NESTED)?
+    };
     let mut holes = format.holes(alloc, nested)?;
+    holes.put("LAW", law.as_str());
     holes.put("END", end.as_str());
     holes.put("PARTS", parts.as_str());
     holes.put("VALUE", value.as_str());
@@ -121,12 +139,14 @@ fn variant_law(
     holes.fill(VARIANT_LAW)
 }
 
+const NESTED: &str = "text_seen $SNAKE_$INFIXnested $LIMIT";
+
 const VARIANT_LAW: &str = "
 pub $SNAKE_$INFIXtext_$END : (d : ℕ)
     → $PARTS$SNAKE_$SUFFIX.canonical.text d $VALUE
     ≡ $WRITTEN
 $SNAKE_$INFIXtext_$END d$GIVEN =
-    text_seen $SNAKE_$INFIXnested $LIMIT d $VALUE $SEEN $VIEW
+    $LAW d $VALUE $SEEN $VIEW
 ";
 
 /// The text of a variant.
@@ -148,12 +168,28 @@ pub(crate) fn written(
     let mut codec = match held.leaves.len() {
         0 => return format!(in alloc; "{} (codes \"{name}\")", format.alone),
         1 => String::from_str(alloc, "single_codec")?,
-        _ => String::from_str(alloc, "pair_codec")?,
+        2 => String::from_str(alloc, "pair_codec")?,
+        _ => String::from_str(alloc, "triple_codec")?,
     };
     for leaf in &held.leaves {
         let part = at(alloc, leaf.part.codec.as_str(), itself.as_str())?;
         codec.push(' ')?;
         codec.push_str(atom(alloc, part.as_str())?.as_str())?;
     }
+    let value = tuple_of(alloc, held)?;
     format!(in alloc; "content_text (codes \"{name}\") (({codec}).canonical.text d {value})")
+}
+
+/// The parts of a variant as one tuple.
+fn tuple_of(alloc: Global, held: &Held<'_>) -> Result<String, AllocError> {
+    if let [leaf] = held.leaves.as_slice() {
+        return leaf.value.clone();
+    }
+    let mut text = String::new(alloc);
+    for leaf in &held.leaves {
+        text.push_str(if text.is_empty() { "(" } else { ", " })?;
+        text.push_str(leaf.value.as_str())?;
+    }
+    text.push(')')?;
+    Ok(text)
 }

@@ -24,7 +24,8 @@ pub(crate) fn content_layer(
     let made = match held.leaves.len() {
         0 => return Ok(None),
         1 => "single_layer",
-        _ => "pair_layer",
+        2 => "pair_layer",
+        _ => "triple_layer",
     };
     let mut layer = format!(in alloc; "{made} {}", format.tuple)?;
     for leaf in &held.leaves {

@@ -1,8 +1,9 @@
 //! What is said of a box, an option, a list or a map of something, from what is said of that.
 
+use crate::containers::container_part;
 use crate::maps::mapped;
-use crate::part::{Names, Part, core_part};
-use derive_syntax::{Holder, NestedPart};
+use crate::part::{Names, Part, core_part, nothing_part};
+use derive_syntax::{Core, Holder, NestedPart};
 use std::alloc::{AllocError, Global};
 
 /// What is said of a part.
@@ -11,7 +12,27 @@ pub(crate) fn part_of(
     names: &Names,
     nested: &NestedPart<'_>,
 ) -> Result<Part, AllocError> {
-    let mut part = core_part(alloc, names, nested.core)?;
+    part_within(alloc, names, nested, nested.depth)
+}
+
+/// What is said of a part in which collections stand in one another so deep at most.
+fn part_within(
+    alloc: Global,
+    names: &Names,
+    nested: &NestedPart<'_>,
+    depth: usize,
+) -> Result<Part, AllocError> {
+    let mut parts = Vec::new(alloc);
+    for held in &nested.parts {
+        if depth == 0 {
+            return nothing_part(alloc);
+        }
+        parts.push(part_within(alloc, names, held, depth - 1)?)?;
+    }
+    let mut part = match nested.core {
+        Core::Container(container) => container_part(alloc, container, &parts)?,
+        core => core_part(alloc, names, core)?,
+    };
     for holder in nested.holders.iter().rev() {
         part = match *holder {
             Holder::BTreeMap(key) => mapped(alloc, names, (key, &part))?,

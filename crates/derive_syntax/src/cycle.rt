@@ -13,7 +13,7 @@ pub struct Cycle<'a> {
     /// The same, each after those that it contains but the root, which is the last.
     pub inward: Vec<Token<'a>>,
     /// The one that each way from a type back to itself leads through. What is read is counted in
-    /// its levels; the others are structs, each of them a layer around values of it.
+    /// its levels; each of the others is a layer around values of it.
     pub root: Token<'a>,
     /// The type parameters of a type that contains itself. Several types have none.
     pub parameters: Vec<Token<'a>>,
@@ -32,7 +32,7 @@ impl Cycle<'_> {
 }
 
 const NO_ROOT: &str = "leads back to the type that it stands in: of types that contain each \
-    other one is on each way back, and the others are structs with named fields";
+    other one is on each way back";
 
 impl<'a> Source<'a> {
     /// The types that a type of the file contains and that contain it, with itself. `None` where it
@@ -40,8 +40,7 @@ impl<'a> Source<'a> {
     ///
     /// # Errors
     ///
-    /// No type among them is on each way back, with structs of named fields alone beside it. Or an
-    /// allocation fails.
+    /// No type among them is on each way back. Or an allocation fails.
     pub fn cycle_of(
         &self,
         alloc: Global,
@@ -108,39 +107,51 @@ fn in_order<'a>(
     Ok(ordered)
 }
 
-/// The first of some types that each way back leads through.
+/// The first of some types that each way back leads through: one beside which there are structs
+/// alone, if there is such a one.
 fn root_of<'a>(
     alloc: Global,
     source: &Source<'a>,
     names: &[Token<'a>],
 ) -> Result<Option<Token<'a>>, AllocError> {
+    let mut first = None;
     for name in names {
-        if is_root(alloc, source, names, *name)? {
+        if !is_root(alloc, source, names, *name)? {
+            continue;
+        }
+        if are_structs(source, names, *name) {
             return Ok(Some(*name));
         }
+        first = first.or(Some(*name));
     }
-    Ok(None)
+    Ok(first)
 }
 
-/// Whether the others among some types are structs of named fields, none of which leads back to
-/// itself but through this one.
+/// Whether none of some types leads back to itself but through this one.
 fn is_root<'a>(
     alloc: Global,
     source: &Source<'a>,
     names: &[Token<'a>],
     root: Token<'a>,
 ) -> Result<bool, AllocError> {
-    for definition in &source.definitions {
-        let name = definition.name;
-        if name.text == root.text || !name.is_among(names) {
-            continue;
-        }
-        let is_struct = matches!(definition.shape, Shape::Fields(_));
-        if !is_struct || name.is_among(&contained(alloc, source, name, root.text)?) {
+    for name in names {
+        if name.text != root.text && name.is_among(&contained(alloc, source, *name, root.text)?) {
             return Ok(false);
         }
     }
     Ok(true)
+}
+
+/// Whether all of some types but this one are structs of named fields.
+fn are_structs<'a>(source: &Source<'a>, names: &[Token<'a>], root: Token<'a>) -> bool {
+    for definition in &source.definitions {
+        let name = definition.name;
+        let is_other = name.text != root.text && name.is_among(names);
+        if is_other && !matches!(definition.shape, Shape::Fields(_)) {
+            return false;
+        }
+    }
+    true
 }
 
 /// Some types, each after those that it contains but the root, which is the last.

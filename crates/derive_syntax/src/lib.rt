@@ -5,17 +5,21 @@
 
 mod check;
 mod comment;
+mod containers;
 mod cycle;
 mod nested;
 mod parse;
+mod places;
 mod scan;
 mod state;
 mod syntax;
 mod template;
 mod token;
+mod types;
 mod used;
 
 pub use check::{Missing, check_source, field_name, missing_value, variant_name};
+pub use containers::Container;
 pub use cycle::Cycle;
 pub use derive_source::{
     Case, DeriveError, Fault, MARKER, MODULE_LINE, SourceFault, Subject, Writer, Written,
@@ -29,3 +33,4 @@ pub use syntax::{
 };
 pub use template::Holes;
 pub use token::{Token, TokenKind};
+pub use types::{listed, tuple_parts};

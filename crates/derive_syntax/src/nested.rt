@@ -1,10 +1,11 @@
 //! Types that contain themselves or each other: what their parts are made of.
 
+use crate::containers::{Container, between, container_of, keyed};
 use crate::cycle::Cycle;
-use crate::syntax::{Content, Definition, Field, Shape, Type, Variant};
+use crate::syntax::Type;
 use crate::token::{Token, TokenKind};
 use derive_source::Fault;
-use std::alloc::Global;
+use std::alloc::{AllocError, Global};
 
 /// A type of the library that a part of a type that contains itself may stand in.
 #[derive(Clone, Copy, PartialEq)]
@@ -32,6 +33,8 @@ pub enum Core<'a> {
     Other(&'a str),
     /// A type parameter, by its name.
     Parameter(&'a str),
+    /// Another type of the library, which holds no values of the type itself.
+    Container(Container<'a>),
 }
 
 /// A part of a type that contains itself.
@@ -41,6 +44,12 @@ pub struct NestedPart<'a> {
     pub holders: Vec<Holder<'a>>,
     /// What it is in there.
     pub core: Core<'a>,
+    /// What that holds, if it is another type of the library.
+    pub parts: Vec<NestedPart<'a>>,
+    /// How deep such types stand in one another.
+    pub depth: usize,
+    /// The names of the other user-defined types in it.
+    pub others: Vec<&'a str>,
 }
 
 impl NestedPart<'_> {
@@ -50,73 +59,23 @@ impl NestedPart<'_> {
     }
 }
 
-impl<'a> Definition<'a> {
-    /// The first place in its fields or parts at which a type of this name stands. A word within a
-    /// path is none.
-    pub(crate) fn place_of(&self, name: Token<'a>) -> Option<Token<'a>> {
-        match &self.shape {
-            Shape::Fields(fields) => place_in_fields(fields, name),
-            Shape::Parts(parts) => place_in_parts(parts, name),
-            Shape::Variants(variants) => place_in_variants(variants, name),
-        }
-    }
-}
-
-/// The first place in variants.
-fn place_in_variants<'a>(variants: &[Variant<'a>], name: Token<'a>) -> Option<Token<'a>> {
-    for variant in variants {
-        let place = match &variant.content {
-            Content::Nothing => None,
-            Content::Parts(parts) => place_in_parts(parts, name),
-            Content::Fields(fields) => place_in_fields(fields, name),
-        };
-        if place.is_some() {
-            return place;
-        }
-    }
-    None
-}
-
-/// The first place in fields.
-fn place_in_fields<'a>(fields: &[Field<'a>], name: Token<'a>) -> Option<Token<'a>> {
-    for field in fields {
-        let place = field.of.parameter_of(&[name]);
-        if place.is_some() {
-            return place;
-        }
-    }
-    None
-}
-
-/// The first place in parts.
-fn place_in_parts<'a>(parts: &[Type<'a>], name: Token<'a>) -> Option<Token<'a>> {
-    for part in parts {
-        let place = part.parameter_of(&[name]);
-        if place.is_some() {
-            return place;
-        }
-    }
-    None
-}
-
 const PLAIN: [&str; 14] = [
     "bool", "u8", "u16", "u32", "u64", "u128", "usize", "i8", "i16", "i32", "i64", "i128",
     "String", "()",
 ];
 
-/// The types that a key may have.
-const KEYS: [&str; 11] = [
-    "bool", "u8", "u16", "u32", "u64", "usize", "i8", "i16", "i32", "i64", "String",
-];
-
 const NO_PART: &str = "stands in a type that contains itself: a part of one is an integer, `bool`, \
-    `()`, a `String`, the type itself or another one by its name, as it is or within `Vec`, \
-    `Option`, `Box` and `BTreeMap`";
+    `()`, a `String`, the type itself or another one by its name, or a type of the library that \
+    holds such";
+
+const NO_HOLDER: &str = "leads to the type itself within a tuple, an array or another collection: \
+    around it stand `Vec`, `Option`, `Box` and `BTreeMap` alone";
+
+const NO_PARAMETER: &str = "leads to a type parameter within a tuple, an array or another \
+    collection: in a type that contains itself one stands within `Vec`, `Option`, `Box` and \
+    `BTreeMap` alone";
 
 const NO_SAME: &str = "stands in itself with other types in place of its type parameters";
-
-const NO_KEY: &str = "is no key of a map in a type that contains itself: such a key is a `String`, \
-    `bool` or an integer of at most 64 bits";
 
 const ENDLESS: &str = "stands in itself with no `Box`, no `Vec` and no `BTreeMap` around it";
 
@@ -134,6 +93,98 @@ pub fn nested_part<'a>(
     cycle: &Cycle<'a>,
     of: Type<'a>,
 ) -> Result<NestedPart<'a>, Fault> {
+    let part = part_within(alloc, cycle, of, of.0.len())?;
+    let held = part.holders.get(1..).unwrap_or(&[]);
+    if part.is_within() && held.contains(&Holder::Option) {
+        return Err(fault_at(of, INNER));
+    }
+    if cycle.is_one() && part.is_within() && !has_end(&part.holders) {
+        let (_holders, inner) = holders_of(alloc, of)?;
+        return Err(fault_at(inner, ENDLESS));
+    }
+    Ok(part)
+}
+
+/// What a type is made of, in which types stand in one another so deep at most.
+fn part_within<'a>(
+    alloc: Global,
+    cycle: &Cycle<'a>,
+    of: Type<'a>,
+    depth: usize,
+) -> Result<NestedPart<'a>, Fault> {
+    let (holders, inner) = holders_of(alloc, of)?;
+    if let Some(core) = core_of(cycle, inner) {
+        return Ok(single(alloc, holders, core)?);
+    }
+    let Some((container, types)) = container_of(alloc, inner)? else {
+        return Err(no_part(cycle, inner));
+    };
+    let mut parts = Vec::new(alloc);
+    for held in &types {
+        if depth == 0 {
+            return Err(no_part(cycle, inner));
+        }
+        let part = part_within(alloc, cycle, *held, depth - 1)?;
+        check_held(*held, &part)?;
+        parts.push(part)?;
+    }
+    Ok(collected(alloc, holders, container, parts)?)
+}
+
+/// A part that is no collection, in these types of the library.
+fn single<'a>(
+    alloc: Global,
+    holders: Vec<Holder<'a>>,
+    core: Core<'a>,
+) -> Result<NestedPart<'a>, AllocError> {
+    let mut others = Vec::new(alloc);
+    if let Core::Other(name) = core {
+        others.push(name)?;
+    }
+    Ok(NestedPart {
+        holders,
+        core,
+        parts: Vec::new(alloc),
+        depth: 0,
+        others,
+    })
+}
+
+/// A part that is a collection of these, in these types of the library.
+fn collected<'a>(
+    alloc: Global,
+    holders: Vec<Holder<'a>>,
+    container: Container<'a>,
+    parts: Vec<NestedPart<'a>>,
+) -> Result<NestedPart<'a>, AllocError> {
+    let mut others = Vec::new(alloc);
+    let mut depth = 0usize;
+    for part in &parts {
+        depth = depth.max(part.depth);
+        for name in &part.others {
+            others.push(*name)?;
+        }
+    }
+    Ok(NestedPart {
+        holders,
+        core: Core::Container(container),
+        parts,
+        depth: depth.saturating_add(1),
+        others,
+    })
+}
+
+/// An error where a collection holds the type itself, or a type parameter.
+fn check_held(of: Type<'_>, part: &NestedPart<'_>) -> Result<(), Fault> {
+    match part.core {
+        Core::Itself | Core::Around(_) => Err(fault_at(of, NO_HOLDER)),
+        Core::Parameter(_) => Err(fault_at(of, NO_PARAMETER)),
+        _ => Ok(()),
+    }
+}
+
+/// What a type stands in, from without, and the type in there.
+fn holders_of<'a>(alloc: Global, of: Type<'a>) -> Result<(Vec<Holder<'a>>, Type<'a>), Fault> {
     let mut holders = Vec::new(alloc);
     let mut inner = of;
     for _turn in of.0 {
@@ -143,23 +194,17 @@ pub fn nested_part<'a>(
         holders.push(holder)?;
         inner = held;
     }
-    let Some(core) = core_of(cycle, inner) else {
-        let words = if is_other_itself(cycle, inner) {
-            NO_SAME
-        } else {
-            NO_PART
-        };
-        return Err(fault_at(inner, words));
+    Ok((holders, inner))
+}
+
+/// What is wrong with a type that is no part.
+fn no_part<'a>(cycle: &Cycle<'a>, of: Type<'a>) -> Fault {
+    let words = if is_other_itself(cycle, of) {
+        NO_SAME
+    } else {
+        NO_PART
     };
-    let part = NestedPart { holders, core };
-    let held = part.holders.get(1..).unwrap_or(&[]);
-    if part.is_within() && held.contains(&Holder::Option) {
-        return Err(fault_at(of, INNER));
-    }
-    if cycle.is_one() && part.is_within() && !has_end(&part.holders) {
-        return Err(fault_at(inner, ENDLESS));
-    }
-    Ok(part)
+    fault_at(of, words)
 }
 
 /// A fault at the first token of a type.
@@ -183,34 +228,13 @@ fn held_in<'a>(of: Type<'a>) -> Result<Option<(Holder<'a>, Type<'a>)>, Fault> {
         "Box" => Holder::Box,
         "Option" => Holder::Option,
         "Vec" => Holder::Vec,
-        "BTreeMap" => return map_of(held),
+        "BTreeMap" => match keyed(held)? {
+            Some((key, value)) => return Ok(Some((Holder::BTreeMap(key), value))),
+            None => return Ok(None),
+        },
         _ => return Ok(None),
     };
     Ok(Some((holder, held)))
-}
-
-/// What stands between the angle brackets of a type, without a comma at its end.
-fn between<'a>(of: Type<'a>) -> Option<Type<'a>> {
-    let open = of.0.get(1)?;
-    if !open.is("<") {
-        return None;
-    }
-    let held = of.0.get(2..of.0.len().saturating_sub(1))?;
-    match held.last() {
-        Some(comma) if comma.is(",") => Some(Type(held.get(..held.len().saturating_sub(1))?)),
-        _ => Some(Type(held)),
-    }
-}
-
-/// A map of what stands between its angle brackets: a key, a comma and a value.
-fn map_of<'a>(between: Type<'a>) -> Result<Option<(Holder<'a>, Type<'a>)>, Fault> {
-    match between.0 {
-        [key, comma, value @ ..] if comma.is(",") && KEYS.contains(&key.text) => {
-            Ok(Some((Holder::BTreeMap(key.text), Type(value))))
-        }
-        [key, _next, ..] => Err(key.fault(NO_KEY)),
-        _ => Ok(None),
-    }
 }
 
 /// What a type is that stands in no other: one of these types, one of Rust's, or another one.

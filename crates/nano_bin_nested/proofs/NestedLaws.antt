@@ -5,7 +5,8 @@ use Rattle.nano_bin_bytes.specs.declared.error.DeBinErr.{DeBinErr}
 use Rattle.nano_bin_bytes.specs.Codec.{Codec}
 use Rattle.nano_bin_bytes.specs.Reading.{Decodes, DecodesToNothing, ReadsNone}
 use Rattle.nano_bin.proofs.Readers.{as_reads}
-use Rattle.nano_bin_levels.specs.Layers.{Nested}
+use Rattle.nano_bin_levels.specs.Layers.{Layer, Nested}
+use Rattle.nano_bin_levels.proofs.LayersLaws.{seen_layer}
 use Rattle.nano_bin_levels.proofs.LevelsLaws.{level, level_legal, nested_codec, Legal}
 use Rattle.nano_bin_levels.proofs.LevelsLaws.{rolled, unrolled, written_around}
 
@@ -71,6 +72,19 @@ module _ {A : Type 0} (l : Nested A) where
       let here = subst (λ w. seen_codec.encoding.legal (l.layer.means l.means w)) (sym e) h in
       let there = l.layer.legal_same (nested_codec l) (level l n) l.means (l.view x) inner here in
       (suc n, subst (l.layer.codec (level l n)).encoding.legal (sym (l.means_is x)) there)
+
+-- ---- a type that is a layer around values of another one, by what it is seen as
+
+module _ {A B V : Type 0} (view : B → V) (l : Layer A V) (f : Codec A) where
+  pub layer_written : (x : B) (v : V) → view x ≡ v
+      → ((seen_layer view l).codec f).canonical.written x ≡ (l.codec f).canonical.written v
+  layer_written x v e = ap (l.codec f).canonical.written e
+
+  pub layer_legal : (x : B) (v : V) → view x ≡ v
+      → (l.codec f).encoding.legal (l.means f.canonical.means v)
+      → (l.codec f).encoding.legal (l.means f.canonical.means (view x))
+  layer_legal x v e h =
+      subst (λ w. (l.codec f).encoding.legal (l.means f.canonical.means w)) (sym e) h
 
 -- ---- how deep the parts of a value are
 

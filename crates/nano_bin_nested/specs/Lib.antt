@@ -1,2 +1,3 @@
 pub mod ChoiceLayerCodecs
 pub mod PairLayerCodecs
+pub mod TupleCodecs

@@ -37,4 +37,6 @@ pub use nano_levels::{Levels, Other, Within};
 pub use parts::JsonPartsWithin;
 pub use read::read_record_json_within;
 pub use traits::{NestedJson, ReadsJson, WritesJson};
-pub use variant_writer::{write_pair_within, write_variant_other, write_variant_within};
+pub use variant_writer::{
+    write_pair_within, write_triple_within, write_variant_other, write_variant_within,
+};

@@ -44,4 +44,6 @@ pub use part_writer::{
 pub use parts::{RonPartWithin, RonPartsWithin};
 pub use read::read_record_ron_within;
 pub use traits::{NestedRon, ReadsRon, WritesRon};
-pub use variant_writer::{write_pair_within, write_variant_other, write_variant_within};
+pub use variant_writer::{
+    write_pair_within, write_triple_within, write_variant_other, write_variant_within,
+};

@@ -1,7 +1,7 @@
 //! The variants of enums that contain themselves, written: a name with its content.
 
 ghost use Rattle.std.specs.Prelude.{OnOk, OnErr};
-ghost use Rattle.nano_ron.specs.ContainerCodecs.{pair_codec};
+ghost use Rattle.nano_ron.specs.ContainerCodecs.{pair_codec, triple_codec};
 ghost use Rattle.nano_ron_schema.specs.VariantCodecs.{single_codec};
 ghost use Rattle.nano_ron_schema.specs.Variants.{content_text};
 ghost use Rattle.nano_text.specs.Outcomes.{Appends, AppendsPart, Unchanged};
@@ -106,4 +106,45 @@ fn append_pair<A: WritesRon, B: WritesRon>(
     open_variant(name, s)?;
     append_part_within(alloc, first, d, s)?;
     append_last_within(alloc, second, d, s)
+}
+
+/// Appends a variant with three parts: its name, and the parts at level `d` with a comma and a space
+/// between two and parentheses around them. A part that holds no values of the enum is given as a
+/// `Part`. If the write fails, `s.out` is unchanged.
+pub fn write_triple_within<A: WritesRon, B: WritesRon, C: WritesRon>(
+    alloc: Global,
+    name: &str,
+    first: &A,
+    second: &B,
+    third: &C,
+    d: usize,
+    s: &mut SerRonState,
+) -> Result<(), AllocError>
+    ensures ok { OnOk result (Appends s.old.out s.new.out (content_text name.now
+        ((triple_codec A.ron B.ron C.ron).canonical.text d (first.now, second.now, third.now)))) }
+    ensures err { OnErr result (Unchanged s.old.out s.new.out) }
+{
+    let start = s.out.len();
+    let written = append_triple(alloc, name, first, second, third, d, s);
+    rollback_on_error(&mut s.out, start, written)
+}
+
+/// Appends a variant with three parts. If allocation fails, what was written so far is left.
+fn append_triple<A: WritesRon, B: WritesRon, C: WritesRon>(
+    alloc: Global,
+    name: &str,
+    first: &A,
+    second: &B,
+    third: &C,
+    d: usize,
+    s: &mut SerRonState,
+) -> Result<(), AllocError>
+    ensures ok { OnOk result (Appends s.old.out s.new.out (content_text name.now
+        ((triple_codec A.ron B.ron C.ron).canonical.text d (first.now, second.now, third.now)))) }
+    ensures err { OnErr result (AppendsPart s.old.out s.new.out) }
+{
+    open_variant(name, s)?;
+    append_part_within(alloc, first, d, s)?;
+    append_part_within(alloc, second, d, s)?;
+    append_last_within(alloc, third, d, s)
 }

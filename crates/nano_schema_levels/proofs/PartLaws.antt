@@ -165,21 +165,18 @@ module _ {T : Type 0} {c : Cutting T} {g : Grammar T} (s : TupleStyle c)
     legal_same = p.legal_same;
   }
 
-  -- the parts of a pair after the opening bracket, and those of a triple and a quadruple
+  -- the parts of a pair after the opening bracket, and those of a triple and a quadruple, as nested
+  -- pairs
   abbrev pub two_parts : {A B C : Type 0} → Layer c g A B → Layer c g A C → Layer c g A (B × C)
   two_parts p q = both_layer (part_style s) are.divides p (last_layer q)
 
   abbrev pub three_parts : {A B C D : Type 0} → Layer c g A B → Layer c g A C → Layer c g A D
-      → Layer c g A (B × C × D)
-  three_parts p q r =
-      seen_layer (λ x. (x.0, (x.1, x.2)))
-      (both_layer (part_style s) are.divides p (two_parts q r))
+      → Layer c g A (B × (C × D))
+  three_parts p q r = both_layer (part_style s) are.divides p (two_parts q r)
 
   abbrev pub four_parts : {A B C D E : Type 0} → Layer c g A B → Layer c g A C → Layer c g A D
-      → Layer c g A E → Layer c g A (B × C × D × E)
-  four_parts p q r t =
-      seen_layer (λ x. (x.0, (x.1, x.2, x.3)))
-      (both_layer (part_style s) are.divides p (three_parts q r t))
+      → Layer c g A E → Layer c g A (B × (C × (D × E)))
+  four_parts p q r t = both_layer (part_style s) are.divides p (three_parts q r t)
 
   -- a tuple of one part, of two, three and four
   abbrev pub single_layer : {A B : Type 0} → Layer c g A B → Layer c g A B
@@ -189,9 +186,9 @@ module _ {T : Type 0} {c : Cutting T} {g : Grammar T} (s : TupleStyle c)
   pair_layer p q = tuple_layer (two_parts p q)
 
   abbrev pub triple_layer : {A B C D : Type 0} → Layer c g A B → Layer c g A C → Layer c g A D
-      → Layer c g A (B × C × D)
+      → Layer c g A (B × (C × D))
   triple_layer p q r = tuple_layer (three_parts p q r)
 
   abbrev pub quadruple_layer : {A B C D E : Type 0} → Layer c g A B → Layer c g A C
-      → Layer c g A D → Layer c g A E → Layer c g A (B × C × D × E)
+      → Layer c g A D → Layer c g A E → Layer c g A (B × (C × (D × E)))
   quadruple_layer p q r t = tuple_layer (four_parts p q r t)

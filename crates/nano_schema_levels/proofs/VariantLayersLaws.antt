@@ -1,7 +1,7 @@
 -- Layers of variants: the last one, one and those after it, and the choice as a whole. Each stands
 -- alone or has content.
 use Rattle.std.specs.Prelude.{◌≡◌, ◌+◌, ◌++◌, ℕ, suc, List, refl}
-use Rattle.std.proofs.Common.{◌∙◌, ap, arith}
+use Rattle.std.proofs.Common.{sym, ◌∙◌, subst, ap, arith}
 use Rattle.nano_value.specs.Meaning.{Meaning, nothing}
 use Rattle.nano_value.specs.Sums.{tagged}
 use Rattle.nano_meaning.proofs.SumsLaws.{legal_at, variant_is_legal, content_is_legal}
@@ -15,6 +15,7 @@ use Rattle.nano_grammar.specs.Choices.{Chosen, Placed, chosen_last}
 use Rattle.nano_grammar.proofs.ChoicesLaws.{alone_placed, body_placed, chosen_next}
 use Rattle.nano_grammar.proofs.ChoicesLaws.{codec_reported}
 use Rattle.nano_levels.specs.Layers.{Layer}
+use Rattle.nano_schema.specs.Choices.{either_is}
 use Rattle.nano_schema.specs.declared.choices.Either.{Either}
 use Rattle.nano_schema.specs.declared.choices.Either.TheVariants.{First, Later}
 use Rattle.nano_schema_levels.specs.VariantLayers.{VariantsLayer, FitsContent, NamesAreGood}
@@ -31,9 +32,11 @@ module _ {T : Type 0} {c : Cutting T} {g : Grammar T} (s : VariantStyle c g) whe
   last_unit name = record {
     chosen = λ f. chosen_last name (alone_placed s);
     inside = nothing_inside;
+    meant = λ from m x. tagged from nothing;
     place = λ x. 0;
     content = λ m x. nothing;
-    means_is = λ f from x. let e : from ≡ 0 + from = omega arith in ap (λ n. tagged n nothing) e;
+    means_is = λ f from x. refl;
+    is_tagged = λ m from x. let e : from ≡ 0 + from = omega arith in ap (λ n. tagged n nothing) e;
     content_same = λ m n x e. refl;
     text_same = λ f h x e d. refl;
     tokens_same = λ f h x e. refl;
@@ -50,20 +53,28 @@ module _ {T : Type 0} {c : Cutting T} {g : Grammar T} (s : VariantStyle c g) whe
     abbrev placed : Codec c g A → Placed s B
     placed f = body_placed s (body_around f)
 
+    abbrev pub content_meant : ℕ → (A → Meaning) → B → Meaning
+    content_meant from m x = tagged from (p.means m x)
+
     pub tagged_content : (f : Codec c g A) (from : ℕ) (x : B)
-        → tagged from ((p.codec f).canonical.means x)
-        ≡ tagged (0 + from) (p.means f.canonical.means x)
-    tagged_content f from x =
-        let e : from ≡ 0 + from = omega arith in λ i. tagged (e i) (p.means_is f x i)
+        → tagged from ((p.codec f).canonical.means x) ≡ content_meant from f.canonical.means x
+    tagged_content f from x = ap (tagged from) (p.means_is f x)
+
+    pub content_tagged : (m : A → Meaning) (from : ℕ) (x : B)
+        → content_meant from m x ≡ tagged (0 + from) (p.means m x)
+    content_tagged m from x =
+        let e : from ≡ 0 + from = omega arith in ap (λ n. tagged n (p.means m x)) e
 
     -- it has content
     abbrev pub last_variant : VariantsLayer s A B
     last_variant = record {
       chosen = λ f. chosen_last name (placed f);
       inside = inside_of p;
+      meant = content_meant;
       place = λ x. 0;
       content = p.means;
       means_is = tagged_content;
+      is_tagged = content_tagged;
       content_same = p.means_same;
       text_same = λ f h x e d. ap (s.content_text name) (p.text_same f h x e d);
       tokens_same = λ f h x e. ap (λ l. s.opened name ++ (l ++ s.closing)) (p.tokens_same f h x e);
@@ -89,16 +100,22 @@ module _ {T : Type 0} {c : Cutting T} {g : Grammar T} (s : VariantStyle c g) whe
     unit_content m (First x) = nothing
     unit_content m (Later y) = others.content m y
 
+    abbrev pub unit_meant : ℕ → (A → Meaning) → Either (Unit {0}) C → Meaning
+    unit_meant from m = either_is (λ x. tagged from nothing) (others.meant (suc from) m)
+
     pub unit_means : (f : Codec c g A) (from : ℕ) (x : Either (Unit {0}) C)
-        → (unit_before f).means from x
-        ≡ tagged (unit_place x + from) (unit_content f.canonical.means x)
-    unit_means f from (First x) =
+        → (unit_before f).means from x ≡ unit_meant from f.canonical.means x
+    unit_means f from (First x) = refl
+    unit_means f from (Later y) = others.means_is f (suc from) y
+
+    pub unit_tagged : (m : A → Meaning) (from : ℕ) (x : Either (Unit {0}) C)
+        → unit_meant from m x ≡ tagged (unit_place x + from) (unit_content m x)
+    unit_tagged m from (First x) =
         let e : from ≡ 0 + from = omega arith in ap (λ n. tagged n nothing) e
-    unit_means f from (Later y) =
+    unit_tagged m from (Later y) =
         let place = others.place y in
         let e : place + suc from ≡ suc place + from = omega arith in
-        others.means_is f (suc from) y
-        ∙ ap (λ n. tagged n (others.content f.canonical.means y)) e
+        others.is_tagged m (suc from) y ∙ ap (λ n. tagged n (others.content m y)) e
 
     pub unit_same : (m n : A → Meaning) (x : Either (Unit {0}) C)
         → unit_inside.All (λ y. m y ≡ n y) x → unit_content m x ≡ unit_content n x
@@ -141,9 +158,11 @@ module _ {T : Type 0} {c : Cutting T} {g : Grammar T} (s : VariantStyle c g) whe
     next_unit = record {
       chosen = unit_before;
       inside = unit_inside;
+      meant = unit_meant;
       place = unit_place;
       content = unit_content;
       means_is = unit_means;
+      is_tagged = unit_tagged;
       content_same = unit_same;
       text_same = unit_text;
       tokens_same = unit_tokens;
@@ -170,15 +189,21 @@ module _ {T : Type 0} {c : Cutting T} {g : Grammar T} (s : VariantStyle c g) whe
     either_content m (First x) = p.means m x
     either_content m (Later y) = others.content m y
 
+    abbrev pub either_meant : ℕ → (A → Meaning) → Either B C → Meaning
+    either_meant from m = either_is (content_meant name p fits from m) (others.meant (suc from) m)
+
     pub next_means : (f : Codec c g A) (from : ℕ) (x : Either B C)
-        → (next_of f).means from x
-        ≡ tagged (either_place x + from) (either_content f.canonical.means x)
+        → (next_of f).means from x ≡ either_meant from f.canonical.means x
     next_means f from (First x) = tagged_content name p fits f from x
-    next_means f from (Later y) =
+    next_means f from (Later y) = others.means_is f (suc from) y
+
+    pub next_tagged : (m : A → Meaning) (from : ℕ) (x : Either B C)
+        → either_meant from m x ≡ tagged (either_place x + from) (either_content m x)
+    next_tagged m from (First x) = content_tagged name p fits m from x
+    next_tagged m from (Later y) =
         let place = others.place y in
         let e : place + suc from ≡ suc place + from = omega arith in
-        others.means_is f (suc from) y
-        ∙ ap (λ n. tagged n (others.content f.canonical.means y)) e
+        others.is_tagged m (suc from) y ∙ ap (λ n. tagged n (others.content m y)) e
 
     pub next_same : (m n : A → Meaning) (x : Either B C)
         → either_holds.All (λ y. m y ≡ n y) x → either_content m x ≡ either_content n x
@@ -222,9 +247,11 @@ module _ {T : Type 0} {c : Cutting T} {g : Grammar T} (s : VariantStyle c g) whe
     next_variant = record {
       chosen = next_of;
       inside = either_holds;
+      meant = either_meant;
       place = either_place;
       content = either_content;
       means_is = next_means;
+      is_tagged = next_tagged;
       content_same = next_same;
       text_same = next_text;
       tokens_same = next_tokens;
@@ -238,13 +265,13 @@ module _ {T : Type 0} {c : Cutting T} {g : Grammar T} (s : VariantStyle c g) whe
 module _ {T : Type 0} {c : Cutting T} {g : Grammar T} {s : VariantStyle c g} {A V : Type 0}
     (v : VariantsLayer s A V) (good : NamesAreGood v) (differ : NamesDiffer v) where
   abbrev pub choice_means : (A → Meaning) → V → Meaning
-  choice_means m x = tagged (v.place x) (v.content m x)
+  choice_means m x = v.meant 0 m x
 
-  pub choice_mean : (f : Codec c g A) (x : V)
-      → (v.chosen f).means 0 x ≡ choice_means f.canonical.means x
-  choice_mean f x =
+  pub choice_tagged : (m : A → Meaning) (x : V)
+      → choice_means m x ≡ tagged (v.place x) (v.content m x)
+  choice_tagged m x =
       let e : v.place x + 0 ≡ v.place x = omega arith in
-      v.means_is f 0 x ∙ ap (λ n. tagged n (v.content f.canonical.means x)) e
+      v.is_tagged m 0 x ∙ ap (λ n. tagged n (v.content m x)) e
 
   -- the codec of the values, given that of the inner ones
   abbrev pub choice_around : Codec c g A → Codec c g V
@@ -252,6 +279,19 @@ module _ {T : Type 0} {c : Cutting T} {g : Grammar T} {s : VariantStyle c g} {A 
       let k = v.chosen f in
       codec_reported (codec_as k.seen (variants_codec k.variants (good f) (differ f))) (k.means 0)
       k.text (k.meant 0) k.written
+
+  pub choice_content : (f : Codec c g A) (m : A → Meaning) (x : V)
+      → (choice_around f).encoding.legal (choice_means m x)
+      → legal_at (legal_contents (v.chosen f)) (v.place x) (v.content m x)
+  choice_content f m x h =
+      content_is_legal (legal_contents (v.chosen f)) (v.place x) (v.content m x)
+      (subst (choice_around f).encoding.legal (choice_tagged m x) h)
+
+  pub choice_same : (m n : A → Meaning) (x : V) → v.inside.All (λ y. m y ≡ n y) x
+      → choice_means m x ≡ choice_means n x
+  choice_same m n x e =
+      choice_tagged m x
+      ∙ (ap (λ k. tagged (v.place x) k) (v.content_same m n x e) ∙ sym (choice_tagged n x))
 
   abbrev pub choice_layer : Layer c g A V
   choice_layer = record {
@@ -262,16 +302,14 @@ module _ {T : Type 0} {c : Cutting T} {g : Grammar T} {s : VariantStyle c g} {A 
     weaker = v.inside.weaker;
     less = v.inside.less;
     most = v.inside.most;
-    means_is = choice_mean;
-    means_same = λ m n x e. ap (λ k. tagged (v.place x) k) (v.content_same m n x e);
+    means_is = λ f x. v.means_is f 0 x;
+    means_same = choice_same;
     text_same = v.text_same;
     tokens_same = v.tokens_same;
     sound_same = v.sound_same;
-    legal_parts = λ f m x h.
-        v.legal_parts f m x
-        (content_is_legal (legal_contents (v.chosen f)) (v.place x) (v.content m x) h);
+    legal_parts = λ f m x h. v.legal_parts f m x (choice_content f m x h);
     legal_same = λ f h m x w legal.
-        variant_is_legal (legal_contents (v.chosen h)) (v.place x) (v.content m x)
-        (v.legal_same f h m x w
-        (content_is_legal (legal_contents (v.chosen f)) (v.place x) (v.content m x) legal));
+        subst (choice_around h).encoding.legal (sym (choice_tagged m x))
+        (variant_is_legal (legal_contents (v.chosen h)) (v.place x) (v.content m x)
+        (v.legal_same f h m x w (choice_content f m x legal)));
   }

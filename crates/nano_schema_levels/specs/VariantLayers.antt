@@ -24,16 +24,20 @@ module _ {T : Type 0} {c : Cutting T} {g : Grammar T} {s : VariantStyle c g} whe
   abbrev pub ChosenSound : {V : Type 0} → Chosen s V → V → Type 0
   ChosenSound k x = SoundContent k.variants (k.seen x)
 
--- the variants, given the codec of the inner values; what they hold of these, the place of a
--- value's variant, and what its content means. What holds of a value hangs on the inner ones alone
+-- the variants, given the codec of the inner values; what they hold of these, what a value means
+-- where the first of them has this tag, the place of a value's variant, and what its content means.
+-- What holds of a value hangs on the inner ones alone
 pub record VariantsLayer {T : Type 0} {c : Cutting T} {g : Grammar T} (s : VariantStyle c g)
     (A V : Type 0) : Type 1 where
   pub chosen : Codec c g A → Chosen s V
   pub inside : Inside A V
+  pub meant : ℕ → (A → Meaning) → V → Meaning
   pub place : V → ℕ
   pub content : (A → Meaning) → V → Meaning
   pub means_is : (f : Codec c g A) (from : ℕ) (x : V)
-      → (chosen f).means from x ≡ tagged (place x + from) (content f.canonical.means x)
+      → (chosen f).means from x ≡ meant from f.canonical.means x
+  pub is_tagged : (m : A → Meaning) (from : ℕ) (x : V)
+      → meant from m x ≡ tagged (place x + from) (content m x)
   pub content_same : (m n : A → Meaning) (x : V) → inside.All (λ y. m y ≡ n y) x
       → content m x ≡ content n x
   pub text_same : (f h : Codec c g A) (x : V)

@@ -51,20 +51,36 @@ struct B {
 => 7:29: `"3"` stands above a type whose levels are not counted
 ----
 // nanoserde: bin
+#[cycle(a)]
 enum A {
     C(u8),
     D { a: Box<B> },
 }
 
 // nanoserde: bin
+#[cycle(a)]
 struct B(u8, C);
 
 // nanoserde: bin
+#[cycle(a)]
 enum C {
     E,
     F(Vec<A>),
 }
-=> 4:16: `B` leads back to the type that it stands in
+=> 10:8: `B` is a tuple struct that contains itself: give its parts names
+----
+// nanoserde: bin
+enum A {
+    C(u8, Box<B>),
+    D(Box<A>),
+}
+
+// nanoserde: bin
+enum B {
+    E(Box<B>),
+    F(Vec<A>),
+}
+=> 3:15: `B` leads back to the type that it stands in
 ----
 // nanoserde: bin
 struct A {

@@ -42,6 +42,8 @@ mod nested_forms;
 #[cfg(test)]
 mod nested_generic_forms;
 #[cfg(test)]
+mod nested_shape_forms;
+#[cfg(test)]
 mod nested_tests;
 #[cfg(test)]
 mod outcome;

@@ -15,9 +15,9 @@ struct A {
 ----
 // nanoserde: bin json
 enum A {
-    B(u8, bool, Vec<A>),
+    B(u8, bool, i8, Vec<A>),
 }
-=> 3:5: `B` has more than two parts, which no variant has in JSON and RON
+=> 3:5: `B` has more than three parts, which no variant has in JSON and RON
 ----
 // nanoserde: json
 enum A {
@@ -92,7 +92,7 @@ use std::collections::HashMap;
 struct A {
     a: HashMap<String, A>,
 }
-=> 5:8: `HashMap` stands in a type that contains itself
+=> 5:24: `A` leads to the type itself within a tuple, an array or another collection
 ----
 use std::collections::BTreeMap;
 
@@ -100,7 +100,7 @@ use std::collections::BTreeMap;
 struct A {
     a: BTreeMap<u128, A>,
 }
-=> 5:17: `u128` is no key of a map in a type that contains itself
+=> 5:17: `u128` is no key of a map or a set in a type that contains itself
 ----
 use std::collections::BTreeMap;
 
@@ -108,7 +108,7 @@ use std::collections::BTreeMap;
 struct A {
     a: Option<BTreeMap<Option<u8>, A>>,
 }
-=> 5:24: `Option` is no key of a map in a type that contains itself
+=> 5:24: `Option` is no key of a map or a set in a type that contains itself
 ----
 use std::collections::BTreeMap;
 
@@ -116,7 +116,7 @@ use std::collections::BTreeMap;
 enum A {
     B(BTreeMap<Box<A>, u8>),
 }
-=> 5:16: `Box` is no key of a map in a type that contains itself
+=> 5:16: `Box` is no key of a map or a set in a type that contains itself
 ----
 use std::collections::BTreeMap;
 
@@ -131,7 +131,7 @@ use std::collections::BTreeMap;
 // nanoserde: bin
 struct A {
     a: Vec<A>,
-    b: BTreeMap<u8, (u8, bool)>,
+    b: BTreeMap<u8, (u8, u8, u8, u8, bool)>,
 }
 => 6:21: `(` stands in a type that contains itself
 ----
@@ -139,13 +139,45 @@ struct A {
 enum A {
     B(Vec<(u8, A)>),
 }
-=> 3:11: `(` stands in a type that contains itself
+=> 3:16: `A` leads to the type itself within a tuple, an array or another collection
 ----
 // nanoserde: bin
 enum A {
     B { a: Box<[A; 2]> },
 }
-=> 3:16: `[` stands in a type that contains itself
+=> 3:17: `A` leads to the type itself within a tuple, an array or another collection
+----
+// nanoserde: bin
+struct A {
+    a: Vec<A>,
+    b: [u8; N],
+}
+=> 4:8: `[` stands in a type that contains itself
+----
+// nanoserde: bin
+struct A<T> {
+    a: Vec<A<T>>,
+    b: Option<(u8, Vec<T>)>,
+}
+=> 4:20: `Vec` leads to a type parameter within a tuple, an array or another collection
+----
+use std::collections::HashSet;
+
+// nanoserde: bin
+struct A {
+    a: Vec<A>,
+    b: HashSet<u128>,
+}
+=> 6:16: `u128` is no key of a map or a set in a type that contains itself
+----
+use std::collections::BTreeSet;
+
+// nanoserde: bin
+struct A {
+    a: Vec<A>,
+    b: [BTreeSet<(u8, u8)>; 2],
+}
+=> 6:18: `(` is no key of a map or a set in a type that contains itself
 ----
 use super::*;
 

@@ -8,6 +8,7 @@ use crate::nested_default_forms::{DEFAULT_FILES, DEFAULT_IMPLS};
 use crate::nested_faults::NESTED;
 use crate::nested_forms::{FILES, IMPLS};
 use crate::nested_generic_forms::{GENERIC_FILES, GENERIC_IMPLS};
+use crate::nested_shape_forms::{SHAPE_FILES, SHAPE_IMPLS};
 use crate::outcome::MODULE;
 use derive_nested::{DeriveError, NestedFile, nested_files};
 use std::alloc::{AllocError, Global};
@@ -71,6 +72,7 @@ fn impls_are_written_within_levels(rt: HostRuntime) {
     are_written(&rt, rt.alloc(), CYCLE_IMPLS);
     are_written(&rt, rt.alloc(), DEFAULT_IMPLS);
     are_written(&rt, rt.alloc(), GENERIC_IMPLS);
+    are_written(&rt, rt.alloc(), SHAPE_IMPLS);
 }
 
 #[test]
@@ -79,6 +81,7 @@ fn definitions_and_laws_stand_beside_the_sources(rt: HostRuntime) {
     are_beside(&rt, rt.alloc(), CYCLE_FILES);
     are_beside(&rt, rt.alloc(), DEFAULT_FILES);
     are_beside(&rt, rt.alloc(), GENERIC_FILES);
+    are_beside(&rt, rt.alloc(), SHAPE_FILES);
 }
 
 #[test]

@@ -12,8 +12,10 @@ use nanoserde::records::{Choice, Holder, Item, Plain, Test};
 use std::alloc::{AllocError, Global};
 use std::collections::{BTreeSet, HashMap, HashSet, LinkedList};
 use test_nested::{Branch, Statement};
+use test_nested_defaults::Widget;
 use test_nested_derived::{Chain, Expression, Folder, Rule, Tree};
 use test_nested_derived_ron::Menu;
+use test_nested_shapes::{Argument, Node, Term};
 use test_types::{
     Change, Clock, Command, Count, Empty, Entry, Event, Greetings, Hall, HallName, Marker, Message,
     Moved, Notice, Point, Proxy, Reply, Role, Seat, Seats, Server, Signal, Site, Step, Tagged,
@@ -176,6 +178,10 @@ const ITSELF_NAMES: &[&str] = &[
     "Menu",
     "Statement",
     "Branch",
+    "Widget",
+    "Term",
+    "Argument",
+    "Node",
 ];
 
 /// A type that contains itself, or one of two that contain each other, or another type.
@@ -194,6 +200,10 @@ pub(crate) fn of_itself(
         Some(5) => of_type::<Menu>(alloc, format, input),
         Some(6) => of_type::<Statement>(alloc, format, input),
         Some(7) => of_type::<Branch>(alloc, format, input),
+        Some(8) => of_type::<Widget>(alloc, format, input),
+        Some(9) => of_type::<Term>(alloc, format, input),
+        Some(10) => of_type::<Argument>(alloc, format, input),
+        Some(11) => of_type::<Node>(alloc, format, input),
         _ => of_documents(alloc, format, kind, input),
     }
 }

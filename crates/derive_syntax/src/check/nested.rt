@@ -5,7 +5,7 @@ use crate::check::known::is_defined;
 use crate::check::nested_defaults::check_default;
 use crate::check::nested_json::check_nested_json;
 use crate::cycle::Cycle;
-use crate::nested::{Core, nested_part};
+use crate::nested::nested_part;
 use crate::syntax::{Attributes, Content, Definition, Field, Shape, Source, Type, Variant};
 use crate::token::{Token, TokenKind};
 use derive_source::Fault;
@@ -193,12 +193,9 @@ fn check_part<'a>(
     of: Type<'a>,
 ) -> Result<(), Fault> {
     let part = nested_part(alloc, cycle, of)?;
-    let Core::Other(other) = part.core else {
-        return Ok(());
-    };
     for token in of.0 {
-        if token.text == other {
-            return check_other(alloc, source, *token);
+        if part.others.contains(&token.text) {
+            check_other(alloc, source, *token)?;
         }
     }
     Ok(())

@@ -4,7 +4,7 @@ use crate::syntax::{Content, Definition, Shape};
 use derive_source::Fault;
 
 const PARTS: &str =
-    "has more than two parts, which no variant has in JSON and RON of an enum that contains \
+    "has more than three parts, which no variant has in JSON and RON of an enum that contains \
     itself: give them names";
 
 const NO_FIELDS: &str =
@@ -19,7 +19,7 @@ pub(crate) fn check_nested_json<'a>(definition: &Definition<'a>) -> Result<(), F
     for variant in variants {
         match &variant.content {
             Content::Nothing => {}
-            Content::Parts(parts) if parts.len() > 2 => return Err(variant.name.fault(PARTS)),
+            Content::Parts(parts) if parts.len() > 3 => return Err(variant.name.fault(PARTS)),
             Content::Parts(_parts) => {}
             Content::Fields(fields) if fields.is_empty() => {
                 return Err(variant.name.fault(NO_FIELDS));

@@ -157,7 +157,7 @@ fn write_parts<'a>(
     match parts {
         [] => write_name(sheet, variant, format),
         [part] => write_part(sheet, target, variant, (part, format)),
-        [first, second, ..] => write_pair(sheet, variant, (first, second), format),
+        _ => write_several(sheet, variant, parts, format),
     }
 }
 
@@ -202,22 +202,26 @@ fn write_part<'a>(
     sheet.short(call.as_str())
 }
 
-/// The call that writes a variant with two parts.
-fn write_pair<'a>(
+/// The call that writes a variant with two parts or three.
+fn write_several<'a>(
     sheet: &mut Sheet,
     variant: &Variant<'a>,
-    (first, second): (&Held<'a>, &Held<'a>),
+    parts: &[Held<'a>],
     format: TextNames,
 ) -> Result<String, AllocError> {
     let alloc = sheet.alloc;
-    let open = format!(in alloc; "nano_{}_nested::write_pair_within(", format.name)?;
+    let count = if parts.len() == 2 { "pair" } else { "triple" };
+    let open = format!(in alloc; "nano_{}_nested::write_{count}_within(", format.name)?;
     let open = sheet.short(open.as_str())?;
     let key = format!(in alloc; "\"{}\"", variant_name(alloc, variant, None)?)?;
-    let (first, second) = (first.name.as_str(), second.name.as_str());
     let mut arguments = Vec::new(alloc);
-    for argument in ["alloc", key.as_str(), first, second, "d", "s"] {
-        arguments.push(Piece::of(alloc, argument)?)?;
+    arguments.push(Piece::of(alloc, "alloc")?)?;
+    arguments.push(Piece::of(alloc, key.as_str())?)?;
+    for part in parts {
+        arguments.push(Piece::of(alloc, part.name.as_str())?)?;
     }
+    arguments.push(Piece::of(alloc, "d")?)?;
+    arguments.push(Piece::of(alloc, "s")?)?;
     let brackets = Brackets {
         open: open.as_str(),
         close: ")",

@@ -1,0 +1,7 @@
+use Rattle.std.proofs.Common.{rules, append_assoc}
+use Rattle.std.proofs.lemmas.Str.{encodes-append}
+use Rattle.nano_json_nested.proofs.variant_writer.open_variant.Goals as goal
+
+pub returns-clause-ok : goal.returns-clause-ok
+unfolding lib.Utf8.encode
+returns-clause-ok c = search (rules, append_assoc, encodes-append)

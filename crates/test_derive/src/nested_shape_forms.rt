@@ -1,0 +1,113 @@
+//! Sources with enums that contain each other, a variant of three parts and collections in types
+//! that contain themselves, and lines that are written of them.
+
+/// Lines of the module of the impls.
+pub(crate) const SHAPE_IMPLS: &str = r#"// nanoserde: bin json ron
+#[cycle(a)]
+enum A {
+    C(u8, Box<A>, Vec<B>),
+}
+
+// nanoserde: bin json ron
+#[cycle(a)]
+enum B {
+    D(A),
+    E,
+}
+=>
+type ACParts = (
+    Other<Newtype<u8>>,
+    (Within<Newtype<Box<A>>>, Within<Newtype<Vec<B>>>),
+);
+=>
+        read_choice_within::<Levels, B, BVariants>(self, alloc, offset, bytes)
+=>
+        match read_choice_json_within::<Levels, BVariants>(self, left, alloc, state, input) {
+=>
+            Self::C(first, second, third) => {
+                let first = &nano_json_schema::Part { of: first };
+                write_triple_within(alloc, "C", first, second, third, d, s)
+            }
+=>
+                nano_ron_nested::write_triple_within(alloc, "C", first, second, third, d, s)
+----
+use std::collections::{HashMap, HashSet, LinkedList};
+
+// nanoserde: bin
+struct A {
+    a: Vec<A>,
+    b: [(u8, HashSet<bool>); 2],
+    c: Option<LinkedList<HashMap<u8, B>>>,
+}
+
+// nanoserde: bin
+struct B(u8);
+=>
+    Within<Required<ANames<0>, Vec<A>>>,
+=>
+    Other<Required<ANames<1>, [(u8, HashSet<bool>); 2]>>,
+=>
+    Other<Optional<ANames<2>, LinkedList<HashMap<u8, B>>>>,
+"#;
+
+/// Lines of the files beside the sources.
+pub(crate) const SHAPE_FILES: &str = r#"// nanoserde: bin json
+#[cycle(a)]
+enum A {
+    C(u8, Box<A>, Vec<B>),
+}
+
+// nanoserde: bin json
+#[cycle(a)]
+enum B {
+    D(A),
+    E,
+}
+=>
+b_means x =
+    (either_is (λ (v : A). tagged 0 (a_means v))
+    (λ (v : Unit {0}). tagged 1 nothing)) (b_view x)
+=>
+abbrev pub b_variants : ChoiceLayer A (BContent A)
+=>
+abbrev pub b_around : Layer A B
+b_around = seen_layer b_view b_layer
+=>
+b_written_d v =
+    layer_written b_view b_layer a_codec (B-D v) (First v) (b_view_d v)
+=>
+    layer_legal b_view b_layer a_codec (B-D v) (First v) (b_view_d v)
+=>
+    layer_text b_view b_json_layer a_json d (B-D v) (First v) (b_view_d v)
+=>
+    last_variant json_variants (codes "C") (triple_layer tuple_style block_brackets (other_layer u8_codec) (seen_layer (λ x. x.value) itself_layer) (seen_layer (λ x. x.items) (list_layer block_style block_brackets b_around))) (λ f x d. tt)
+=>
+BValue::known-returns-in-D t c =
+=>
+AValue::known-returns-in-C t c =
+----
+use std::collections::{BTreeSet, HashMap, HashSet, LinkedList};
+
+// nanoserde: bin ron
+struct A {
+    a: Vec<A>,
+    b: [(u8, HashSet<bool>); 2],
+    c: LinkedList<HashMap<String, B>>,
+    d: (bool, BTreeSet<i8>, ()),
+}
+
+// nanoserde: bin ron
+struct B(u8);
+=>
+    paired (paired (listed y.a.items, listed (map (λ x. paired (whole x.0, set_means (item_set truth x.1.keys))) y.b)), paired (listed (map (λ x. table_means (table_of (λ x. text (string_bytes x)) b_value.means x.entries)) y.c), paired (truth y.d.0, paired (ordered_means int_cmp number y.d.1.keys, nothing))))
+=>
+    LegalPair (LegalPair (LegalList P) (LegalArray 2 (LegalPair (LegalUnsigned 8) (LegalSet LegalTruth)))) (LegalPair (LegalList (LegalMap LegalText b_value.legal)) (LegalPair LegalTruth (LegalPair (LegalSet (LegalSigned w8)) LegalUnit)))
+=>
+    pair_layer (pair_layer (seen_layer (λ x. x.items) (list_layer itself_layer)) (other_layer (array_codec 2 (pair_codec u8_codec (codec_as (λ (x : HashSet Bool (BuildHasherDefault FoldHasher)). x.keys) (set_codec wholes boolean_codec)))))) (other_layer (pair_codec (linked_codec (codec_as (λ (x : HashMap (String Global) B (BuildHasherDefault FoldHasher)). x.entries) (map_codec texts string_codec b_part))) (triple_codec boolean_codec (codec_as (λ (x : BTreeSet ℤ). x.keys) (ordered_codec numbers int_cmp i8_codec)) unit_codec)))
+=>
+use Rattle.nano_bin.specs.ContainerCodecs.{list_codec as linked_codec, map_codec, ordered_codec, pair_codec, set_codec}
+=>
+use Rattle.nano_bin_nested.specs.TupleCodecs.{array_codec, triple_codec}
+=>
+use Rattle.nano_ron.specs.ContainerCodecs.{array_codec, linked_codec, map_codec, ordered_codec, pair_codec, set_codec, triple_codec}
+"#;

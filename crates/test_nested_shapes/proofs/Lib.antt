@@ -1,0 +1,6 @@
+mod TermCodecsLaws
+mod TermJsonCodecsLaws
+mod TermRonCodecsLaws
+mod NodeCodecsLaws
+mod NodeJsonCodecsLaws
+mod NodeRonCodecsLaws

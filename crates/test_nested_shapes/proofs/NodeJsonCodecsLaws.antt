@@ -1,0 +1,61 @@
+-- Written by derive_files: what is proved of types that contain themselves.
+use Rattle.std.specs.Prelude.{◌≡◌, ℕ, List, refl, codes, String, Vec, string_cmp}
+use Rattle.std.specs.BTreeSet.{BTreeSet}
+use Rattle.std.specs.HashMap.{HashMap}
+use Rattle.std.specs.HashSet.{HashSet}
+use Rattle.std.specs.declared.hash.BuildHasherDefault.{BuildHasherDefault}
+use Rattle.std.specs.declared.hash.FoldHasher.{FoldHasher}
+use Rattle.std.specs.Global.{Global}
+use Rattle.nano_meaning.proofs.OrderLaws.{texts, wholes}
+use Rattle.nano_grammar.specs.FieldCodec.{WrittenField, fields_text}
+use Rattle.nano_schema_levels.proofs.NestedLaws.{text_seen}
+use Rattle.nano_json.specs.Codec.{codec_as}
+use Rattle.nano_json.specs.ContainerCodecs.{array_codec, list_codec, list_codec as linked_codec, map_codec, ordered_codec, pair_codec, set_codec}
+use Rattle.nano_json_tokens.specs.Token.{Token}
+use Rattle.nano_json_schema.specs.FieldCodecs.{json_fields, required_field, u8_codec, u16_codec, u32_codec, i32_codec, string_codec}
+use Rattle.test_nested_shapes.specs.declared.node.Node.{Node}
+use Rattle.test_nested_shapes.specs.NodeCodecs.{node_view}
+use Rattle.test_nested_shapes.specs.NodeJsonCodecs.{node_json_nested, node_json, node_json_fields}
+use Rattle.test_nested_shapes.specs.declared.node.Node.TheViews.{out-Node}
+
+-- ==== Node
+
+abbrev pub node_json_field_name : Node → List (WrittenField Token)
+node_json_field_name x =
+    (required_field (codes "name") string_codec).canonical.fields (out-Node x).name
+
+abbrev pub node_json_field_at : Node → List (WrittenField Token)
+node_json_field_at x =
+    (required_field (codes "at") (array_codec 3 i32_codec)).canonical.fields (out-Node x).at
+
+abbrev pub node_json_field_size : Node → List (WrittenField Token)
+node_json_field_size x =
+    (required_field (codes "size") (pair_codec u32_codec u32_codec)).canonical.fields (out-Node x).size
+
+abbrev pub node_json_field_tags : Node → List (WrittenField Token)
+node_json_field_tags x =
+    (required_field (codes "tags") (codec_as (λ (x : BTreeSet (String Global)). x.keys) (ordered_codec texts string_cmp string_codec))).canonical.fields (out-Node x).tags
+
+abbrev pub node_json_field_groups : Node → List (WrittenField Token)
+node_json_field_groups x =
+    (required_field (codes "groups") (codec_as (λ (x : HashSet ℕ (BuildHasherDefault FoldHasher)). x.keys) (set_codec wholes u16_codec))).canonical.fields (out-Node x).groups
+
+abbrev pub node_json_field_effects : Node → List (WrittenField Token)
+node_json_field_effects x =
+    (required_field (codes "effects") (codec_as (λ (x : HashMap (String Global) ℕ (BuildHasherDefault FoldHasher)). x.entries) (map_codec texts string_codec u32_codec))).canonical.fields (out-Node x).effects
+
+abbrev pub node_json_field_path : Node → List (WrittenField Token)
+node_json_field_path x =
+    (required_field (codes "path") (linked_codec (pair_codec string_codec u8_codec))).canonical.fields (out-Node x).path
+
+abbrev pub node_json_field_children : Node → List (WrittenField Token)
+node_json_field_children x =
+    (required_field (codes "children") (codec_as (λ (x : Vec Node Global). x.items) (list_codec node_json))).canonical.fields (out-Node x).children
+
+abbrev pub node_json_written : Node → List (WrittenField Token)
+node_json_written x =
+    (node_json_fields.codec node_json).canonical.fields (node_view x)
+
+pub node_json_text : (d : ℕ) → (x : Node) → node_json.canonical.text d x
+    ≡ fields_text json_fields d (node_json_written x)
+node_json_text d x = text_seen node_json_nested 128 d x (node_view x) refl

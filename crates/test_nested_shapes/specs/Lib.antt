@@ -1,0 +1,6 @@
+pub mod TermCodecs
+pub mod TermJsonCodecs
+pub mod TermRonCodecs
+pub mod NodeCodecs
+pub mod NodeJsonCodecs
+pub mod NodeRonCodecs

@@ -1,0 +1,94 @@
+-- Written by derive_files: types that contain themselves, and their codecs.
+use Rattle.std.specs.Prelude.{◌≡◌, ℕ, ℤ, List, suc, map, refl, String, Vec, string_bytes, string_cmp}
+use Rattle.std.specs.BTreeSet.{BTreeSet}
+use Rattle.std.specs.HashMap.{HashMap}
+use Rattle.std.specs.HashSet.{HashSet}
+use Rattle.std.specs.declared.hash.BuildHasherDefault.{BuildHasherDefault}
+use Rattle.std.specs.declared.hash.FoldHasher.{FoldHasher}
+use Rattle.std.specs.Global.{Global}
+use Rattle.std.specs.Int.{w32}
+use Rattle.std.proofs.Common.{◌∙◌}
+use Rattle.nano_value.specs.Meaning.{Meaning, number, whole, text, listed, paired, LegalUnsigned, LegalSigned, LegalText, LegalList, LegalArray, LegalPair}
+use Rattle.nano_value.specs.Sets.{LegalSet, item_set, set_means}
+use Rattle.nano_value.specs.Ordered.{ordered_means}
+use Rattle.nano_value.specs.Tables.{LegalMap, table_means, table_of}
+use Rattle.nano_meaning.proofs.OrderLaws.{texts, wholes}
+use Rattle.nano_levels.specs.Layers.{greatest}
+use Rattle.nano_schema_levels.specs.LegalLevels.{LegalStep}
+use Rattle.nano_schema_levels.proofs.StepsLaws.{list_depth}
+use Rattle.nano_bin_bytes.specs.Codec.{Codec}
+use Rattle.nano_bin_bytes.specs.BaseCodecs.{codec_as}
+use Rattle.nano_bin.specs.ScalarCodecs.{u8_codec, u16_codec, u32_codec, i32_codec, string_codec}
+use Rattle.nano_bin.specs.ContainerCodecs.{list_codec as linked_codec, map_codec, ordered_codec, pair_codec, set_codec}
+use Rattle.nano_bin_levels.specs.Layers.{Layer, Nested}
+use Rattle.nano_bin_levels.proofs.LayersLaws.{itself_layer, next_layer, seen_layer}
+use Rattle.nano_bin_levels.proofs.ListsLaws.{list_layer}
+use Rattle.nano_bin_levels.proofs.LevelsLaws.{nested_codec}
+use Rattle.nano_bin_nested.specs.TupleCodecs.{array_codec}
+use Rattle.test_nested_shapes.specs.declared.node.Node.{Node}
+use Rattle.test_nested_shapes.specs.declared.node.Node.TheOpen.{Node-F}
+use Rattle.test_nested_shapes.specs.declared.node.Node.TheViews.{out-Node}
+use Rattle.test_nested_shapes.specs.declared.node.Node.TheFolds.{map-Node, fold-Node, fold_out-Node}
+
+-- ==== Node: what a value is seen as
+
+abbrev pub NodeContent : Type 0 → Type 0
+NodeContent X =
+    ((String Global × List ℤ) × ((ℕ × ℕ) × BTreeSet (String Global))) × ((HashSet ℕ (BuildHasherDefault FoldHasher) × HashMap (String Global) ℕ (BuildHasherDefault FoldHasher)) × ((List ((String Global) × ℕ)) × Vec X Global))
+
+abbrev pub node_opened : {X : Type 0} → Node-F X → NodeContent X
+node_opened y = (((y.name, y.at), (y.size, y.tags)), ((y.groups, y.effects), (y.path, y.children)))
+
+abbrev pub node_view : Node → NodeContent Node
+node_view x = node_opened (out-Node x)
+
+-- ---- what it means, and how deep it is
+
+abbrev pub node_means_step : Node-F Meaning → Meaning
+node_means_step y =
+    paired (paired (paired (text (string_bytes y.name), listed (map number y.at)), paired (paired (whole y.size.0, whole y.size.1), ordered_means string_cmp (λ x. text (string_bytes x)) y.tags.keys)), paired (paired (set_means (item_set whole y.groups.keys), table_means (table_of (λ x. text (string_bytes x)) whole y.effects.entries)), paired (listed (map (λ x. paired (text (string_bytes x.0), whole x.1)) y.path), listed y.children.items)))
+
+abbrev pub node_means : Node → Meaning
+node_means = fold-Node Meaning node_means_step
+
+abbrev pub node_depth_step : Node-F ℕ → ℕ
+node_depth_step y = greatest (map (λ x. suc x) y.children.items)
+
+abbrev pub node_depth : Node → ℕ
+node_depth = fold-Node ℕ node_depth_step
+
+-- ---- which meanings are legal, given those that are of the values in it
+
+abbrev pub node_step : LegalStep
+node_step P =
+    LegalPair (LegalPair (LegalPair LegalText (LegalArray 3 (LegalSigned w32))) (LegalPair (LegalPair (LegalUnsigned 32) (LegalUnsigned 32)) (LegalSet LegalText))) (LegalPair (LegalPair (LegalSet (LegalUnsigned 16)) (LegalMap LegalText (LegalUnsigned 32))) (LegalPair (LegalList (LegalPair LegalText (LegalUnsigned 8))) (LegalList P)))
+
+-- ---- as bytes: the layer around the values in it, and the codec
+
+abbrev pub node_layer : Layer Node (NodeContent Node)
+node_layer =
+    next_layer (pair_codec (pair_codec string_codec (array_codec 3 i32_codec)) (pair_codec (pair_codec u32_codec u32_codec) (codec_as (λ (x : BTreeSet (String Global)). x.keys) (ordered_codec texts string_cmp string_codec)))) (next_layer (pair_codec (codec_as (λ (x : HashSet ℕ (BuildHasherDefault FoldHasher)). x.keys) (set_codec wholes u16_codec)) (codec_as (λ (x : HashMap (String Global) ℕ (BuildHasherDefault FoldHasher)). x.entries) (map_codec texts string_codec u32_codec))) (next_layer (linked_codec (pair_codec string_codec u8_codec)) (seen_layer (λ x. x.items) (list_layer itself_layer))))
+
+pub node_means_opened : (y : Node-F Node)
+    → node_means_step (map-Node Node Meaning node_means y)
+    ≡ node_layer.means node_means (node_opened y)
+node_means_opened y = refl
+
+pub node_depth_opened : (y : Node-F Node)
+    → node_depth_step (map-Node Node ℕ node_depth y)
+    ≡ node_layer.deep node_depth (node_opened y)
+node_depth_opened y = list_depth _ _ _ (λ x. refl) y.children.items
+
+abbrev pub node_nested : Nested Node
+node_nested = record {
+  Seen = NodeContent Node;
+  layer = node_layer;
+  view = node_view;
+  means = node_means;
+  depth = node_depth;
+  means_is = λ x. fold_out-Node Meaning node_means_step x ∙ node_means_opened (out-Node x);
+  depth_is = λ x. fold_out-Node ℕ node_depth_step x ∙ node_depth_opened (out-Node x);
+}
+
+abbrev pub node_codec : Codec Node
+node_codec = nested_codec node_nested

@@ -1,0 +1,79 @@
+-- Written by derive_files: types that contain themselves, and their codecs.
+use Rattle.std.specs.Prelude.{◌≡◌, ℕ, refl, codes, String, string_cmp}
+use Rattle.std.specs.BTreeSet.{BTreeSet}
+use Rattle.std.specs.HashMap.{HashMap}
+use Rattle.std.specs.HashSet.{HashSet}
+use Rattle.std.specs.declared.hash.BuildHasherDefault.{BuildHasherDefault}
+use Rattle.std.specs.declared.hash.FoldHasher.{FoldHasher}
+use Rattle.std.specs.Global.{Global}
+use Rattle.std.proofs.Common.{◌∙◌}
+use Rattle.nano_value.specs.Meaning.{Meaning, Agrees}
+use Rattle.nano_meaning.proofs.OrderLaws.{texts, wholes}
+use Rattle.nano_schema_levels.proofs.StepsLaws.{later_depth, list_depth}
+use Rattle.nano_levels.specs.Layers.{Layer, Nested}
+use Rattle.nano_levels.proofs.LayersLaws.{itself_layer, list_layer}
+use Rattle.nano_levels.proofs.LevelsLaws.{level, limited}
+use Rattle.nano_schema_levels.specs.FieldLayers.{FieldsLayer}
+use Rattle.nano_schema_levels.proofs.FieldLayersLaws.{fields_pair_layer, other_fields, required_layer, struct_layer}
+use Rattle.nano_schema_levels.proofs.LegalLevelsLaws.{agree_through, legal_as, nested_agrees}
+use Rattle.nano_schema_levels.proofs.PartLaws.{seen_layer}
+use Rattle.nano_bin_nested.proofs.LegalLaws.{nested_agrees as bin_agrees}
+use Rattle.nano_ron.specs.Codec.{Codec, codec_as}
+use Rattle.nano_ron.specs.ContainerCodecs.{array_codec, linked_codec, map_codec, ordered_codec, pair_codec, set_codec}
+use Rattle.nano_ron_tokens.specs.Cut.{ron_grammar}
+use Rattle.nano_ron_tokens.proofs.RonLaws.{ron, block_brackets}
+use Rattle.nano_ron_tokens.proofs.StylesLaws.{line_style}
+use Rattle.nano_ron_schema.specs.FieldCodecs.{required_field, ron_fields, word_names}
+use Rattle.nano_ron_nested.specs.TypeCodecs.{u8_codec, u16_codec, u32_codec, i32_codec, string_codec}
+use Rattle.test_nested_shapes.specs.declared.node.Node.{Node}
+use Rattle.test_nested_shapes.specs.declared.node.Node.TheOpen.{Node-F}
+use Rattle.test_nested_shapes.specs.declared.node.Node.TheViews.{out-Node}
+use Rattle.test_nested_shapes.specs.declared.node.Node.TheFolds.{map-Node, fold_out-Node}
+use Rattle.test_nested_shapes.specs.NodeCodecs.{NodeContent, node_opened, node_view, node_means, node_means_step}
+use Rattle.test_nested_shapes.specs.NodeCodecs.{node_depth, node_depth_step}
+use Rattle.test_nested_shapes.specs.NodeCodecs.{node_step, node_nested, node_codec}
+
+-- ==== Node: the layer around the values in it
+
+abbrev pub node_ron_fields : FieldsLayer ron_fields Node (NodeContent Node)
+node_ron_fields =
+    fields_pair_layer (fields_pair_layer (fields_pair_layer (other_fields ron_fields (required_field (codes "name") string_codec)) (other_fields ron_fields (required_field (codes "at") (array_codec 3 i32_codec)))) (fields_pair_layer (other_fields ron_fields (required_field (codes "size") (pair_codec u32_codec u32_codec))) (other_fields ron_fields (required_field (codes "tags") (codec_as (λ (x : BTreeSet (String Global)). x.keys) (ordered_codec texts string_cmp string_codec)))))) (fields_pair_layer (fields_pair_layer (other_fields ron_fields (required_field (codes "groups") (codec_as (λ (x : HashSet ℕ (BuildHasherDefault FoldHasher)). x.keys) (set_codec wholes u16_codec)))) (other_fields ron_fields (required_field (codes "effects") (codec_as (λ (x : HashMap (String Global) ℕ (BuildHasherDefault FoldHasher)). x.entries) (map_codec texts string_codec u32_codec))))) (fields_pair_layer (other_fields ron_fields (required_field (codes "path") (linked_codec (pair_codec string_codec u8_codec)))) (required_layer ron_fields (codes "children") (seen_layer (λ x. x.items) (list_layer line_style block_brackets itself_layer)))))
+
+abbrev pub node_ron_layer : Layer ron ron_grammar Node (NodeContent Node)
+node_ron_layer = struct_layer node_ron_fields (λ f. word_names refl) (λ f. refl)
+
+pub node_ron_means_opened : (y : Node-F Node)
+    → node_means_step (map-Node Node Meaning node_means y)
+    ≡ node_ron_layer.means node_means (node_opened y)
+node_ron_means_opened y = refl
+
+pub node_ron_depth_opened : (y : Node-F Node)
+    → node_depth_step (map-Node Node ℕ node_depth y)
+    ≡ node_ron_layer.deep node_depth (node_opened y)
+node_ron_depth_opened y =
+    later_depth (later_depth (later_depth (list_depth _ _ _ (λ x. refl) y.children.items)))
+
+abbrev pub node_ron_nested : Nested ron ron_grammar Node
+node_ron_nested = record {
+  Seen = NodeContent Node;
+  layer = node_ron_layer;
+  view = node_view;
+  means = node_means;
+  depth = node_depth;
+  means_is = λ x. fold_out-Node Meaning node_means_step x ∙ node_ron_means_opened (out-Node x);
+  depth_is = λ x. fold_out-Node ℕ node_depth_step x ∙ node_ron_depth_opened (out-Node x);
+}
+
+-- those of at most so many levels
+abbrev pub node_ron_at : ℕ → Codec Node
+node_ron_at = level node_ron_nested
+
+pub node_ron_agrees : Agrees node_means node_codec.encoding.legal node_means
+    (limited node_ron_nested 128).encoding.legal
+node_ron_agrees =
+    agree_through (bin_agrees node_nested node_step (λ f. refl))
+    (nested_agrees node_ron_nested node_step (λ f. refl) 128)
+
+-- those that are read, and what is legal in the words of the format before
+abbrev pub node_ron : Codec Node
+node_ron = legal_as (limited node_ron_nested 128) node_ron_agrees

@@ -1,0 +1,12 @@
+//! User-defined types that contain themselves in further shapes, whose impls, definitions and proofs
+//! are written by `derive`: enums that contain each other, a variant of three parts, and parts that
+//! are arrays, tuples, sets and hashed maps.
+#![tactic(auto)]
+
+mod node;
+mod term;
+#[cfg(test)]
+mod tests;
+
+pub use node::Node;
+pub use term::{Argument, Term};
