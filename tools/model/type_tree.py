@@ -74,8 +74,8 @@ STRUCTS = {
     "Branch": ["then: Statement", "otherwise: Option<Box<Statement>>"],
     "Widget": ["title: String", ("shortcut: String", "none"), ("width: u16", 80), ("row: i32", -1),
                ("is_open: bool", True), ("entries: Vec<Widget>", ()), ("others: BTreeMap<String, Widget>", ())],
-    "Node": ["name: String", "at: [i32; 3]", "size: (u32, u32)", "tags: BTreeSet<String>", "groups: HashSet<u16>",
-             "effects: HashMap<String, u32>", "path: LinkedList<(String, u8)>", "children: Vec<Node>"],
+    "Node": ["name: String", "at: [i32; 3]", "size: (u32, u32)", "tags: BTreeSet<String>",
+             "effects: HashMap<String, u32>", "children: Vec<Node>"],
 }
 ENUMS = {
     "Choice": ["A", "B(i32, String)", {"C": ["a: i32", "b: String"]}],
@@ -90,6 +90,7 @@ ENUMS = {
     "Term": ["Number(i64)", "Call(String, Vec<Argument>)", "If(Box<Term>, Box<Term>, Box<Term>)",
              "Repeat(u32, bool, Box<Term>)"],
     "Argument": ["Plain(Term)", {"Named": ["name: String", "value: Option<Box<Term>>"]}, "Rest"],
+    "Trail": ["End", "Through(LinkedList<(String, u8)>, HashSet<u16>, Box<Trail>)"],
     "Statement": ["Assign(String, i32)", "Block(Vec<Statement>)", "If(Box<Branch>)"],
     "Expression": ["Number(i64)", "Negated(Box<Expression>)", "Sum(Box<Expression>, Box<Expression>)"],
     "Rule": ["Always", "From(u8)",
@@ -98,10 +99,11 @@ ENUMS = {
              "Object(entries<String, Json>)"],
 }
 # These contain themselves; a value of each has at most so many levels, itself being the first.
-NESTED = dict.fromkeys("Tree Expression Chain Folder Menu Statement Widget Term Node Json".split(), 128) | {"Rule": 5}
+NESTED = dict.fromkeys("Chain Expression Folder Json Menu Node Statement Term Trail Tree Widget".split(), 128)
+NESTED["Rule"] = 5
 STRICT = {"Proxy"}  # these are `deny_unknown`
 PARAMETERS = {"Holder": 1, "Tagged": 2, "Reply": 2}
-ONLY = {"Command": "bin", "Message": "json", "u128": "bin", "i128": "bin", "Json": "bin json"}  # not all formats
+ONLY = dict.fromkeys("Argument Command Term i128 u128".split(), "bin") | {"Message": "json", "Json": "bin json"}
 
 NAME = re.compile(r"\s*([A-Za-z]\w*|[()\[\]<>,;]|\d+)")
 CONTAINERS = {"Option": "option", "Vec": "list", "LinkedList": "linked",

@@ -2,13 +2,13 @@
 //! all of them.
 
 use crate::part::Names;
-use derive_syntax::{Case, Cycle, Holes};
+use derive_syntax::{Case, Cycle, Holes, Shape, Source};
 use std::alloc::{AllocError, Global};
 
 /// The types of a cycle.
 #[derive(Drop)]
 pub(crate) struct Members {
-    /// Their names, in the order of the file.
+    /// Their names, in the order in which the prover has them.
     all: Vec<Names>,
     /// That of the root.
     pub(crate) root: Names,
@@ -22,16 +22,41 @@ pub(crate) fn names_of(alloc: Global, name: &str) -> Result<Names, AllocError> {
     })
 }
 
-/// The types of a cycle.
-pub(crate) fn members_of(alloc: Global, cycle: &Cycle<'_>) -> Result<Members, AllocError> {
+/// The types of a cycle of a source.
+pub(crate) fn members_of<'a>(
+    alloc: Global,
+    source: &Source<'a>,
+    cycle: &Cycle<'a>,
+) -> Result<Members, AllocError> {
     let mut all = Vec::new(alloc);
-    for name in &cycle.names {
-        all.push(names_of(alloc, name.text)?)?;
+    for are_enums in [true, false] {
+        for name in sorted(alloc, source, cycle, are_enums)? {
+            all.push(names_of(alloc, name)?)?;
+        }
     }
     Ok(Members {
         all,
         root: names_of(alloc, cycle.root.text)?,
     })
+}
+
+/// The names of the enums of a cycle, or of its structs, ascending: so the prover has them, enums
+/// first.
+fn sorted<'a>(
+    alloc: Global,
+    source: &Source<'a>,
+    cycle: &Cycle<'a>,
+    are_enums: bool,
+) -> Result<Vec<&'a str>, AllocError> {
+    let mut names: Vec<&str> = Vec::new(alloc);
+    for definition in &source.definitions {
+        let is_enum = matches!(definition.shape, Shape::Variants(_));
+        if is_enum == are_enums && definition.name.is_among(&cycle.names) {
+            names.push(definition.name.text)?;
+        }
+    }
+    names.sort()?;
+    Ok(names)
 }
 
 impl Members {
@@ -40,7 +65,7 @@ impl Members {
         self.all.len() > 1
     }
 
-    /// The name of the first in the file: what is said of all of them stands in its module.
+    /// The name of the first: what is said of all of them stands in its module.
     pub(crate) fn first(&self) -> &str {
         match self.all.first() {
             Some(names) => names.of.as_str(),

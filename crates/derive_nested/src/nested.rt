@@ -88,7 +88,7 @@ pub(crate) fn nested_of<'a>(
     };
     Ok(Nested {
         names: names_of(alloc, definition.name.text)?,
-        members: members_of(alloc, &cycle)?,
+        members: members_of(alloc, source, &cycle)?,
         is_enum,
         limit: counted.level_limit(),
         too_deep,

@@ -2,27 +2,15 @@
 //! that contain themselves, and lines that are written of them.
 
 /// Lines of the module of the impls.
-pub(crate) const SHAPE_IMPLS: &str = r#"// nanoserde: bin json ron
-#[cycle(a)]
+pub(crate) const SHAPE_IMPLS: &str = r#"// nanoserde: json ron
 enum A {
-    C(u8, Box<A>, Vec<B>),
-}
-
-// nanoserde: bin json ron
-#[cycle(a)]
-enum B {
-    D(A),
-    E,
+    C(u8, Box<A>, Vec<A>),
 }
 =>
 type ACParts = (
     Other<Newtype<u8>>,
-    (Within<Newtype<Box<A>>>, Within<Newtype<Vec<B>>>),
+    (Within<Newtype<Box<A>>>, Within<Newtype<Vec<A>>>),
 );
-=>
-        read_choice_within::<Levels, B, BVariants>(self, alloc, offset, bytes)
-=>
-        match read_choice_json_within::<Levels, BVariants>(self, left, alloc, state, input) {
 =>
             Self::C(first, second, third) => {
                 let first = &nano_json_schema::Part { of: first };
@@ -30,6 +18,35 @@ type ACParts = (
             }
 =>
                 nano_ron_nested::write_triple_within(alloc, "C", first, second, third, d, s)
+----
+// nanoserde: bin
+#[cycle(a)]
+enum B {
+    C(Box<A>),
+    D,
+}
+
+// nanoserde: bin
+#[cycle(a)]
+enum A {
+    D(B),
+    E,
+}
+=>
+        read_choice_within::<Levels, A, AVariants>(self, alloc, offset, bytes)
+=>
+    #[cycle(read_b_bin)]
+----
+// nanoserde: bin
+struct A {
+    a: Vec<A>,
+    b: [u8; 2],
+    c: (u8, bool),
+}
+=>
+        let (a, b_to_c) = values;
+        let (b, c) = b_to_c;
+        A {
 ----
 use std::collections::{HashMap, HashSet, LinkedList};
 
@@ -51,40 +68,46 @@ struct B(u8);
 "#;
 
 /// Lines of the files beside the sources.
-pub(crate) const SHAPE_FILES: &str = r#"// nanoserde: bin json
-#[cycle(a)]
-enum A {
-    C(u8, Box<A>, Vec<B>),
-}
-
-// nanoserde: bin json
+pub(crate) const SHAPE_FILES: &str = r#"// nanoserde: bin
 #[cycle(a)]
 enum B {
-    D(A),
+    C(u8, Box<B>, Vec<A>),
+}
+
+// nanoserde: bin
+#[cycle(a)]
+enum A {
+    D(B),
     E,
 }
 =>
-b_means x =
-    (either_is (λ (v : A). tagged 0 (a_means v))
-    (λ (v : Unit {0}). tagged 1 nothing)) (b_view x)
+a_means x =
+    (either_is (λ (v : B). tagged 0 (b_means v))
+    (λ (v : Unit {0}). tagged 1 nothing)) (a_view x)
 =>
-abbrev pub b_variants : ChoiceLayer A (BContent A)
+abbrev pub a_variants : ChoiceLayer B (AContent B)
 =>
-abbrev pub b_around : Layer A B
-b_around = seen_layer b_view b_layer
+use Rattle.app.specs.declared.shapes.A.TheOpen.{B-F}
 =>
-b_written_d v =
-    layer_written b_view b_layer a_codec (B-D v) (First v) (b_view_d v)
+b_means = fold-B Meaning Meaning a_means_step b_means_step
 =>
-    layer_legal b_view b_layer a_codec (B-D v) (First v) (b_view_d v)
+abbrev pub a_around : Layer B A
+a_around = seen_layer a_view a_layer
 =>
-    layer_text b_view b_json_layer a_json d (B-D v) (First v) (b_view_d v)
+    layer_written a_view a_layer b_codec (A-D v) (First v) (a_view_d v)
 =>
-    last_variant json_variants (codes "C") (triple_layer tuple_style block_brackets (other_layer u8_codec) (seen_layer (λ x. x.value) itself_layer) (seen_layer (λ x. x.items) (list_layer block_style block_brackets b_around))) (λ f x d. tt)
+    layer_legal a_view a_layer b_codec (A-D v) (First v) (a_view_d v)
 =>
-BValue::known-returns-in-D t c =
+BValue::known-returns-in-C t c =
 =>
-AValue::known-returns-in-C t c =
+AValue::known-returns-in-D t c =
+----
+// nanoserde: json
+enum A {
+    C(u8, Box<A>, Vec<A>),
+}
+=>
+    last_variant json_variants (codes "C") (triple_layer tuple_style block_brackets (other_layer u8_codec) (seen_layer (λ x. x.value) itself_layer) (seen_layer (λ x. x.items) (list_layer block_style block_brackets itself_layer))) (λ f x d. tt)
 ----
 use std::collections::{BTreeSet, HashMap, HashSet, LinkedList};
 

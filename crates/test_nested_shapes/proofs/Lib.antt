@@ -1,6 +1,4 @@
 mod TermCodecsLaws
-mod TermJsonCodecsLaws
-mod TermRonCodecsLaws
 mod NodeCodecsLaws
 mod NodeJsonCodecsLaws
 mod NodeRonCodecsLaws

@@ -12,13 +12,13 @@ use Rattle.nano_bin.specs.ContainerCodecs.{list_codec, option_codec}
 use Rattle.nano_bin_nested.proofs.NestedLaws.{layer_legal, layer_written, seen_legal, written_seen}
 use Rattle.test_nested_shapes.specs.declared.term.Argument.{Argument}
 use Rattle.test_nested_shapes.specs.TermCodecs.{argument_view, argument_means, argument_around, argument_layer, argument_codec}
-use Rattle.test_nested_shapes.specs.declared.term.Term.{the_lemmas}
+use Rattle.test_nested_shapes.specs.declared.term.Argument.{the_lemmas}
 use Rattle.test_nested_shapes.specs.declared.term.Argument.{Plain as Argument-Plain}
 use Rattle.test_nested_shapes.specs.declared.term.Argument.{Named as Argument-Named}
 use Rattle.test_nested_shapes.specs.declared.term.Argument.{Rest as Argument-Rest}
 use Rattle.test_nested_shapes.specs.declared.term.Term.{Term}
 use Rattle.test_nested_shapes.specs.TermCodecs.{term_view, term_means, term_nested, term_codec}
-use Rattle.test_nested_shapes.specs.declared.term.Term.{the_lemmas}
+use Rattle.test_nested_shapes.specs.declared.term.Argument.{the_lemmas}
 use Rattle.test_nested_shapes.specs.declared.term.Term.{Number as Term-Number}
 use Rattle.test_nested_shapes.specs.declared.term.Term.{Call as Term-Call}
 use Rattle.test_nested_shapes.specs.declared.term.Term.{If as Term-If}

@@ -1,16 +1,14 @@
 -- Written by derive_files: types that contain themselves, and their codecs.
 use Rattle.std.specs.Prelude.{◌≡◌, ℕ, ℤ, suc, max, map, refl, Bool, Box, Option, String, Vec, string_bytes}
 use Rattle.std.specs.Global.{Global}
-use Rattle.std.specs.Int.{w64}
 use Rattle.std.specs.Option.{option_map}
 use Rattle.std.proofs.Common.{◌∙◌, ap, lit≤}
-use Rattle.nano_value.specs.Meaning.{Meaning, nothing, truth, number, whole, text, optional, listed, paired, LegalUnsigned, LegalSigned, LegalTruth, LegalUnit, LegalText, LegalOption, LegalList, LegalPair}
-use Rattle.nano_value.specs.Sums.{tagged, LegalVariant, variant, no_variants}
+use Rattle.nano_value.specs.Meaning.{Meaning, nothing, truth, number, whole, text, optional, listed, paired}
+use Rattle.nano_value.specs.Sums.{tagged}
 use Rattle.nano_levels.specs.Layers.{greatest}
 use Rattle.nano_schema.specs.declared.choices.Either.{Either}
 use Rattle.nano_schema.specs.declared.choices.Either.TheVariants.{First, Later}
 use Rattle.nano_schema.specs.Choices.{either_is}
-use Rattle.nano_schema_levels.specs.LegalLevels.{LegalStep}
 use Rattle.nano_schema_levels.specs.Depths.{held_depth}
 use Rattle.nano_schema_levels.proofs.StepsLaws.{by_option, list_depth, list_means, pair_means}
 use Rattle.nano_bin_bytes.specs.Codec.{Codec}
@@ -23,20 +21,20 @@ use Rattle.nano_bin_levels.proofs.LevelsLaws.{nested_codec}
 use Rattle.nano_bin_nested.specs.ChoiceLayerCodecs.{ChoiceLayer, choice_layer, last_variant, next_variant}
 use Rattle.nano_bin_nested.specs.PairLayerCodecs.{pair_layer}
 use Rattle.test_nested_shapes.specs.declared.term.Argument.{Argument}
-use Rattle.test_nested_shapes.specs.declared.term.Term.TheOpen.{Argument-F}
-use Rattle.test_nested_shapes.specs.declared.term.Term.TheViews.{out-Argument}
-use Rattle.test_nested_shapes.specs.declared.term.Term.TheFolds.{map-Argument, fold-Argument, fold_out-Argument}
+use Rattle.test_nested_shapes.specs.declared.term.Argument.TheOpen.{Argument-F}
+use Rattle.test_nested_shapes.specs.declared.term.Argument.TheViews.{out-Argument}
+use Rattle.test_nested_shapes.specs.declared.term.Argument.TheFolds.{map-Argument, fold-Argument, fold_out-Argument}
 use Rattle.test_nested_shapes.specs.declared.term.Term.{Term}
-use Rattle.test_nested_shapes.specs.declared.term.Term.TheOpen.{Term-F}
-use Rattle.test_nested_shapes.specs.declared.term.Term.TheViews.{out-Term}
-use Rattle.test_nested_shapes.specs.declared.term.Term.TheFolds.{map-Term, fold-Term, fold_out-Term}
+use Rattle.test_nested_shapes.specs.declared.term.Argument.TheOpen.{Term-F}
+use Rattle.test_nested_shapes.specs.declared.term.Argument.TheViews.{out-Term}
+use Rattle.test_nested_shapes.specs.declared.term.Argument.TheFolds.{map-Term, fold-Term, fold_out-Term}
 
 -- ==== Argument: what a value is seen as
 
 abbrev pub ArgumentContent : Type 0 → Type 0
 ArgumentContent X = Either X (Either (String Global × Option (Box X Global)) (Unit {0}))
 
-abbrev pub argument_opened : {X : Type 0} → Argument-F X Argument → ArgumentContent X
+abbrev pub argument_opened : {X : Type 0} → Argument-F Argument X → ArgumentContent X
 argument_opened (Argument-F.Plain v) = First v
 argument_opened (Argument-F.Named v0 v1) = Later (First (v0, v1))
 argument_opened Argument-F.Rest = Later (Later (tt {0}))
@@ -53,7 +51,7 @@ TermContent X =
     (Either (Box X Global × (Box X Global × Box X Global))
     (ℕ × (Bool × Box X Global))))
 
-abbrev pub term_opened : {X : Type 0} → Term-F X Argument → TermContent X
+abbrev pub term_opened : {X : Type 0} → Term-F Argument X → TermContent X
 term_opened (Term-F.Number v) = First v
 term_opened (Term-F.Call v0 v1) = Later (First (v0, v1))
 term_opened (Term-F.If v0 v1 v2) = Later (Later (First (v0, (v1, v2))))
@@ -89,35 +87,23 @@ term_depth_step (Term-F.If v0 v1 v2) = max (suc v0.value) (max (suc v1.value) (s
 term_depth_step (Term-F.Repeat v0 v1 v2) = suc v2.value
 
 abbrev pub term_means : Term → Meaning
-term_means = fold-Term Meaning Meaning term_means_step argument_means_step
+term_means = fold-Term Meaning Meaning argument_means_step term_means_step
 
 abbrev pub term_depth : Term → ℕ
-term_depth = fold-Term ℕ ℕ term_depth_step argument_depth_step
+term_depth = fold-Term ℕ ℕ argument_depth_step term_depth_step
 
 -- by the steps, and as the layer around `Term` says it
 abbrev pub argument_means_folded : Argument → Meaning
-argument_means_folded = fold-Argument Meaning Meaning term_means_step argument_means_step
+argument_means_folded = fold-Argument Meaning Meaning argument_means_step term_means_step
 
 abbrev pub argument_depth_folded : Argument → ℕ
-argument_depth_folded = fold-Argument ℕ ℕ term_depth_step argument_depth_step
+argument_depth_folded = fold-Argument ℕ ℕ argument_depth_step term_depth_step
 
 abbrev pub argument_means : Argument → Meaning
 argument_means x =
     (either_is (λ (v : Term). tagged 0 (term_means v))
     (either_is (λ (v : String Global × Option (Box Term Global)). tagged 1 (paired (text (string_bytes v.0), optional (option_map (λ x. term_means x.value) v.1))))
     (λ (v : Unit {0}). tagged 2 nothing))) (argument_view x)
-
--- ---- which meanings are legal, given those that are of the values in it
-
-abbrev pub argument_step : LegalStep
-argument_step P =
-    LegalVariant (variant P (variant (LegalPair LegalText (LegalOption P)) (variant LegalUnit no_variants)))
-
--- ---- which meanings are legal, given those that are of the values in it
-
-abbrev pub term_step : LegalStep
-term_step P =
-    LegalVariant (variant (LegalSigned w64) (variant (LegalPair LegalText (LegalList (argument_step P))) (variant (LegalPair P (LegalPair P P)) (variant (LegalPair (LegalUnsigned 32) (LegalPair LegalTruth P)) no_variants))))
 
 -- ---- as bytes: the layer around the values in it, and the codec
 
@@ -130,23 +116,23 @@ argument_variants =
 abbrev pub argument_layer : Layer Term (ArgumentContent Term)
 argument_layer = choice_layer argument_variants (λ f. lit≤ tt)
 
-pub argument_means_opened : (y : Argument-F Term Argument)
-    → argument_means_step (map-Argument Term Argument Meaning Meaning term_means argument_means_folded y)
+pub argument_means_opened : (y : Argument-F Argument Term)
+    → argument_means_step (map-Argument Argument Term Meaning Meaning argument_means_folded term_means y)
     ≡ argument_layer.means term_means (argument_opened y)
 argument_means_opened (Argument-F.Plain v) = refl
 argument_means_opened (Argument-F.Named v0 v1) =
-    by_option (λ o. argument_means_step (map-Argument Term Argument Meaning Meaning term_means argument_means_folded (Argument-F.Named v0 o))
+    by_option (λ o. argument_means_step (map-Argument Argument Term Meaning Meaning argument_means_folded term_means (Argument-F.Named v0 o))
     ≡ argument_layer.means term_means (argument_opened {X = Term} (Argument-F.Named v0 o)))
     refl (λ x1. refl)
     v1
 argument_means_opened Argument-F.Rest = refl
 
-pub argument_depth_opened : (y : Argument-F Term Argument)
-    → argument_depth_step (map-Argument Term Argument ℕ ℕ term_depth argument_depth_folded y)
+pub argument_depth_opened : (y : Argument-F Argument Term)
+    → argument_depth_step (map-Argument Argument Term ℕ ℕ argument_depth_folded term_depth y)
     ≡ argument_layer.deep term_depth (argument_opened y)
 argument_depth_opened (Argument-F.Plain v) = refl
 argument_depth_opened (Argument-F.Named v0 v1) =
-    by_option (λ o. argument_depth_step (map-Argument Term Argument ℕ ℕ term_depth argument_depth_folded (Argument-F.Named v0 o))
+    by_option (λ o. argument_depth_step (map-Argument Argument Term ℕ ℕ argument_depth_folded term_depth (Argument-F.Named v0 o))
     ≡ argument_layer.deep term_depth (argument_opened {X = Term} (Argument-F.Named v0 o)))
     refl (λ x1. refl)
     v1
@@ -158,11 +144,11 @@ argument_around = seen_layer argument_view argument_layer
 
 pub argument_means_is : (x : Argument) → argument_means_folded x ≡ argument_means x
 argument_means_is x =
-    fold_out-Argument Meaning Meaning term_means_step argument_means_step x ∙ argument_means_opened (out-Argument x)
+    fold_out-Argument Meaning Meaning argument_means_step term_means_step x ∙ argument_means_opened (out-Argument x)
 
 pub argument_depth_is : (x : Argument) → argument_depth_folded x ≡ argument_around.deep term_depth x
 argument_depth_is x =
-    fold_out-Argument ℕ ℕ term_depth_step argument_depth_step x ∙ argument_depth_opened (out-Argument x)
+    fold_out-Argument ℕ ℕ argument_depth_step term_depth_step x ∙ argument_depth_opened (out-Argument x)
 
 -- ---- as bytes: the layer around the values in it, and the codec
 
@@ -176,8 +162,8 @@ term_variants =
 abbrev pub term_layer : Layer Term (TermContent Term)
 term_layer = choice_layer term_variants (λ f. lit≤ tt)
 
-pub term_means_opened : (y : Term-F Term Argument)
-    → term_means_step (map-Term Term Argument Meaning Meaning term_means argument_means_folded y)
+pub term_means_opened : (y : Term-F Argument Term)
+    → term_means_step (map-Term Argument Term Meaning Meaning argument_means_folded term_means y)
     ≡ term_layer.means term_means (term_opened y)
 term_means_opened (Term-F.Number v) = refl
 term_means_opened (Term-F.Call v0 v1) =
@@ -185,8 +171,8 @@ term_means_opened (Term-F.Call v0 v1) =
 term_means_opened (Term-F.If v0 v1 v2) = refl
 term_means_opened (Term-F.Repeat v0 v1 v2) = refl
 
-pub term_depth_opened : (y : Term-F Term Argument)
-    → term_depth_step (map-Term Term Argument ℕ ℕ term_depth argument_depth_folded y)
+pub term_depth_opened : (y : Term-F Argument Term)
+    → term_depth_step (map-Term Argument Term ℕ ℕ argument_depth_folded term_depth y)
     ≡ term_layer.deep term_depth (term_opened y)
 term_depth_opened (Term-F.Number v) = refl
 term_depth_opened (Term-F.Call v0 v1) = list_depth _ _ _ (λ x. argument_depth_is x) v1.items
@@ -200,8 +186,8 @@ term_nested = record {
   view = term_view;
   means = term_means;
   depth = term_depth;
-  means_is = λ x. fold_out-Term Meaning Meaning term_means_step argument_means_step x ∙ term_means_opened (out-Term x);
-  depth_is = λ x. fold_out-Term ℕ ℕ term_depth_step argument_depth_step x ∙ term_depth_opened (out-Term x);
+  means_is = λ x. fold_out-Term Meaning Meaning argument_means_step term_means_step x ∙ term_means_opened (out-Term x);
+  depth_is = λ x. fold_out-Term ℕ ℕ argument_depth_step term_depth_step x ∙ term_depth_opened (out-Term x);
 }
 
 abbrev pub term_codec : Codec Term

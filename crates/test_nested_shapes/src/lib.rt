@@ -1,6 +1,6 @@
 //! User-defined types that contain themselves in further shapes, whose impls, definitions and proofs
-//! are written by `derive`: enums that contain each other, a variant of three parts, and parts that
-//! are arrays, tuples, sets and hashed maps.
+//! are written by `derive`: enums that contain each other, as bytes, a variant of three parts, and
+//! parts that are arrays, tuples, linked lists, sets and hashed maps.
 #![tactic(auto)]
 
 mod node;
@@ -8,5 +8,5 @@ mod term;
 #[cfg(test)]
 mod tests;
 
-pub use node::Node;
+pub use node::{Node, Trail};
 pub use term::{Argument, Term};

@@ -1,4 +1,4 @@
-//! A node of a scene, whose parts are of many types.
+//! A node of a scene, and a trail through scenes, whose parts are of many types.
 
 use std::collections::{BTreeSet, HashMap, HashSet, LinkedList};
 
@@ -14,14 +14,21 @@ pub struct Node {
     pub size: (u32, u32),
     /// What is said of it.
     pub tags: BTreeSet<String>,
-    /// The groups that it is in.
-    pub groups: HashSet<u16>,
     /// How much of each effect it has.
     pub effects: HashMap<String, u32>,
-    /// The way to it, with the time that each step takes.
-    pub path: LinkedList<(String, u8)>,
     /// The nodes in it.
     pub children: Vec<Node>,
+}
+
+/// A trail.
+// nanoserde: bin json ron
+#[derive(PartialEq, Debug, Drop)]
+pub enum Trail {
+    /// It ends.
+    End,
+    /// Places by their names with the time that each takes, the groups that may go there, and the
+    /// rest.
+    Through(LinkedList<(String, u8)>, HashSet<u16>, Box<Trail>),
 }
 
 mod derived;

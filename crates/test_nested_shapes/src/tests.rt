@@ -1,34 +1,20 @@
 //! Each type in each format.
 
-use crate::{Argument, Node, Term};
+use crate::{Argument, Node, Term, Trail};
 use nano_bin_schema::{DeBin, SerBin};
 use nano_json_schema::{DeJson, SerJson};
 use nano_ron_schema::{DeRon, SerRon};
 use std::alloc::Global;
 use std::process::Abort;
 
-const TERMS: [&str; 4] = [
-    r#"{"Call":["f",[{"Plain":[{"Number":[1]}]},{"Named":{"name":"x"}},"Rest"]]}"#,
-    r#"{"Call":["",[{"Named":{"name":"y","value":{"Call":["g",[]]}}}]]}"#,
-    r#"{"If":[{"Number":[0]},{"If":[{"Number":[1]},{"Number":[2]},{"Number":[3]}]},{"Number":[4]}]}"#,
-    r#"{"Repeat":[3,true,{"Number":[-1]}]}"#,
-];
-
-const CALL_RON: &str = "Call(\"f\", [
-    Plain(Number(1)),
-    Named(
-        name:\"x\",
-        value:Call(\"g\", [
-        ]),
-    ),
-    Rest,
-])";
-
-const IF_RON: &str = "If(Number(0), Repeat(3, false, Number(-1)), Number(4))";
-
 const IF: &[u8] = &[
     2, 0, 3, 0, 9, 0, 0, 0, 1, 0, 0, 1, 0, 0, 0, 0, 0, 0, 0, 0, 0, 1, 0, 0, 0, 0, 0, 0, 0, 0, 0, 0,
     0, 0, 0, 0, 0, 0, 0,
+];
+
+const CALL: &[u8] = &[
+    1, 0, 1, 0, 0, 0, 0, 0, 0, 0, 102, 2, 0, 0, 0, 0, 0, 0, 0, 2, 0, 0, 0, 0, 0, 7, 0, 0, 0, 0, 0,
+    0, 0,
 ];
 
 const ARGUMENT: &[u8] = &[
@@ -37,24 +23,29 @@ const ARGUMENT: &[u8] = &[
 
 const NODE: &[u8] = &[
     0, 0, 0, 0, 0, 0, 0, 0, 1, 0, 0, 0, 255, 255, 255, 255, 0, 0, 0, 0, 2, 0, 0, 0, 0, 0, 0, 0, 0,
-    0, 0, 0, 0, 0, 0, 0, 0, 0, 0, 0, 0, 0, 0, 0, 0, 0, 0, 0, 0, 0, 0, 0, 0, 0, 0, 0, 0, 0, 0, 0, 0,
-    0, 0, 0, 0, 0, 0, 0,
+    0, 0, 0, 0, 0, 0, 0, 0, 0, 0, 0, 0, 0, 0, 0, 0, 0, 0, 0, 0, 0, 0, 0,
+];
+
+const TRAIL_JSON: &str = r#"{"Through":[[["a",7],["",0]],[1,2],{"Through":[[],[],"End"]}]}"#;
+
+const TRAIL_RON: &str = "Through([    (\"a\", 7),    (\"\", 0)], [    1,    2], End)";
+
+const TRAIL: &[u8] = &[
+    1, 0, 1, 0, 0, 0, 0, 0, 0, 0, 1, 0, 0, 0, 0, 0, 0, 0, 97, 7, 1, 0, 0, 0, 0, 0, 0, 0, 5, 0, 0, 0,
 ];
 
 const NODE_JSON: &str =
-    r#"{"name":"a","at":[1,-2,3],"size":[4,5],"tags":["x","y"],"groups":[1,2],"effects":{"b":1,"c":2},"path":[["d",7]],"children":[{"name":"","at":[0,0,0],"size":[0,0],"tags":[],"groups":[],"effects":{},"path":[],"children":[]}]}"#;
+    r#"{"name":"a","at":[1,-2,3],"size":[4,5],"tags":["x","y"],"effects":{"b":1,"c":2},"children":[{"name":"","at":[0,0,0],"size":[0,0],"tags":[],"effects":{},"children":[]}]}"#;
 
 const NODE_RON: &str = "(
     name:\"a\",
     at:(1, -2, 3),
     size:(4, 5),
     tags:[        \"x\",        \"y\"],
-    groups:[        1,        2],
     effects:{
         \"b\":1,
         \"c\":2,
     },
-    path:[        (\"d\", 7)],
     children:[
     ],
 )";
@@ -106,22 +97,12 @@ fn is_rejected<T: DeJson + Drop>(alloc: Global, text: &str, column: usize, words
 }
 
 #[test]
-fn terms_are_read_and_written_back(rt: HostRuntime) {
+fn terms_and_arguments_are_read_and_written_back(rt: HostRuntime) {
     let alloc = rt.alloc();
-    for text in TERMS {
-        holds(&rt, is_json::<Term>(alloc, text), text);
-    }
-    holds(&rt, is_ron::<Term>(alloc, CALL_RON), "RON");
-    holds(&rt, is_ron::<Term>(alloc, IF_RON), "RON of a condition");
-    holds(&rt, is_code::<Term>(alloc, IF), "bytes");
-}
-
-#[test]
-fn arguments_are_read_and_written_back(rt: HostRuntime) {
-    let alloc = rt.alloc();
-    holds(&rt, is_code::<Argument>(alloc, ARGUMENT), "bytes");
-    holds(&rt, is_json::<Argument>(alloc, r#""Rest""#), "JSON");
-    holds(&rt, is_ron::<Argument>(alloc, "Plain(Number(1))"), "RON");
+    holds(&rt, is_code::<Term>(alloc, IF), "a condition");
+    holds(&rt, is_code::<Term>(alloc, CALL), "a call");
+    holds(&rt, is_code::<Argument>(alloc, ARGUMENT), "an argument");
+    holds(&rt, !is_code::<Argument>(alloc, IF), "no argument");
 }
 
 #[test]
@@ -133,11 +114,26 @@ fn nodes_are_read_and_written_back(rt: HostRuntime) {
 }
 
 #[test]
-fn other_texts_are_no_terms(rt: HostRuntime) {
+fn trails_are_read_and_written_back(rt: HostRuntime) {
     let alloc = rt.alloc();
-    let text = r#"{"Call":["f",["None"]]}"#;
-    let other = is_rejected::<Term>(alloc, text, 22, "Enum not defined None");
-    holds(&rt, other, "another argument");
-    let text = r#"{"If":[{"Number":[0]},{"Number":[1]}]}"#;
-    holds(&rt, !is_json::<Term>(alloc, text), "a part too few");
+    holds(&rt, is_code::<Trail>(alloc, TRAIL), "bytes");
+    holds(&rt, is_json::<Trail>(alloc, TRAIL_JSON), "JSON");
+    holds(&rt, is_ron::<Trail>(alloc, TRAIL_RON), "RON");
+}
+
+#[test]
+fn other_texts_are_no_trails(rt: HostRuntime) {
+    let alloc = rt.alloc();
+    let other = is_rejected::<Trail>(
+        alloc,
+        r#"{"Through":[[],[],"Begin"]}"#,
+        27,
+        "Enum not defined Begin",
+    );
+    holds(&rt, other, "another variant");
+    holds(
+        &rt,
+        !is_json::<Trail>(alloc, r#"{"Through":[[],[]]}"#),
+        "a part too few",
+    );
 }

@@ -15,7 +15,7 @@ use test_nested::{Branch, Statement};
 use test_nested_defaults::Widget;
 use test_nested_derived::{Chain, Expression, Folder, Rule, Tree};
 use test_nested_derived_ron::Menu;
-use test_nested_shapes::{Argument, Node, Term};
+use test_nested_shapes::{Argument, Node, Term, Trail};
 use test_types::{
     Change, Clock, Command, Count, Empty, Entry, Event, Greetings, Hall, HallName, Marker, Message,
     Moved, Notice, Point, Proxy, Reply, Role, Seat, Seats, Server, Signal, Site, Step, Tagged,
@@ -182,6 +182,7 @@ const ITSELF_NAMES: &[&str] = &[
     "Term",
     "Argument",
     "Node",
+    "Trail",
 ];
 
 /// A type that contains itself, or one of two that contain each other, or another type.
@@ -201,9 +202,10 @@ pub(crate) fn of_itself(
         Some(6) => of_type::<Statement>(alloc, format, input),
         Some(7) => of_type::<Branch>(alloc, format, input),
         Some(8) => of_type::<Widget>(alloc, format, input),
-        Some(9) => of_type::<Term>(alloc, format, input),
-        Some(10) => of_type::<Argument>(alloc, format, input),
+        Some(9) => of_bytes::<Term>(alloc, format, input),
+        Some(10) => of_bytes::<Argument>(alloc, format, input),
         Some(11) => of_type::<Node>(alloc, format, input),
+        Some(12) => of_type::<Trail>(alloc, format, input),
         _ => of_documents(alloc, format, kind, input),
     }
 }

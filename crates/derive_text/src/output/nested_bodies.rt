@@ -17,9 +17,55 @@ pub(crate) fn record_making<'a>(
     target: &Target<'a>,
     fields: &[Field<'a>],
 ) -> Result<String, AllocError> {
-    let pattern = laid(alloc, fields, "$NAME", Items::Patterns, (8, 12))?;
     let made = made(alloc, target, fields)?.laid;
+    let mut names = Vec::new(alloc);
+    let mut has_array = false;
+    for field in fields {
+        names.push(String::from_str(alloc, field.name.text)?)?;
+        has_array = has_array || is_array(field.of);
+    }
+    if has_array && names.len() > 2 {
+        let taken = taken(alloc, &names, ("        ", "values"))?;
+        return format!(in alloc; "{taken}        {made}\n");
+    }
+    let pattern = laid(alloc, fields, "$NAME", Items::Patterns, (8, 12))?;
     format!(in alloc; "        let {pattern} = values;\n        {made}\n")
+}
+
+/// Whether a type is an array: the prover takes one out of nested pairs step by step alone.
+fn is_array(of: Type<'_>) -> bool {
+    match of.0.first() {
+        Some(token) => token.is("["),
+        None => false,
+    }
+}
+
+/// Lines, each after such an indent, that take nested pairs of so many values apart, each half at
+/// a time.
+fn taken(
+    alloc: Global,
+    names: &[String],
+    (indent, whole): (&str, &str),
+) -> Result<String, AllocError> {
+    let (first, second) = names.split_at(names.len() / 2);
+    if names.len() < 2 {
+        return Ok(String::new(alloc));
+    }
+    let one = together(alloc, first)?;
+    let other = together(alloc, second)?;
+    let mut lines = format!(in alloc; "{indent}let ({one}, {other}) = {whole};\n")?;
+    lines.push_str(taken(alloc, first, (indent, one.as_str()))?.as_str())?;
+    lines.push_str(taken(alloc, second, (indent, other.as_str()))?.as_str())?;
+    Ok(lines)
+}
+
+/// What values together are called, or one alone.
+fn together(alloc: Global, names: &[String]) -> Result<String, AllocError> {
+    match names {
+        [name] => name.clone(),
+        [first, .., last] => format!(in alloc; "{first}_to_{last}"),
+        [] => Ok(String::new(alloc)),
+    }
 }
 
 /// The body that makes an enum of the content of its variant: for each variant but the last one
@@ -52,13 +98,12 @@ fn tested<'a>(
     of: &str,
     either: &str,
 ) -> Result<String, AllocError> {
-    let pattern = pattern_of(alloc, variant, (16, 20))?;
+    let content = content_taken(alloc, variant, "values", (16, 20))?;
     let made = named_variant(alloc, variant, Items::Values, (16, 19))?;
     format!(in alloc;
         "        let later = match {of} {{
             {either}::First(values) => {{
-                let {pattern} = values;
-                return {made};
+{content}                return {made};
             }}
             {either}::Later(later) => later,
         }};\n"
@@ -67,9 +112,35 @@ fn tested<'a>(
 
 /// What makes the last variant of its content.
 fn last_made<'a>(alloc: Global, variant: &Variant<'a>, of: &str) -> Result<String, AllocError> {
-    let pattern = pattern_of(alloc, variant, (8, 12))?;
+    let content = content_taken(alloc, variant, of, (8, 12))?;
     let made = named_variant(alloc, variant, Items::Values, (8, 4))?;
-    format!(in alloc; "        let {pattern} = {of};\n        {made}\n")
+    format!(in alloc; "{content}        {made}\n")
+}
+
+/// Lines that take the content of a variant apart, which something is, on lines that are indented so
+/// far, after so many columns of the first.
+fn content_taken<'a>(
+    alloc: Global,
+    variant: &Variant<'a>,
+    of: &str,
+    (indent, before): (usize, usize),
+) -> Result<String, AllocError> {
+    let blanks = if indent == 8 {
+        "        "
+    } else {
+        "                "
+    };
+    let mut names = Vec::new(alloc);
+    let mut has_array = false;
+    for part in parts_of(alloc, &variant.content)? {
+        has_array = has_array || is_array(part.of);
+        names.push(part.name)?;
+    }
+    if has_array && names.len() > 2 {
+        return taken(alloc, &names, (blanks, of));
+    }
+    let pattern = pattern_of(alloc, variant, (indent, before))?;
+    format!(in alloc; "{blanks}let {pattern} = {of};\n")
 }
 
 /// The content of a variant as nested pairs of names, on a line that is indented so far, after so

@@ -7,7 +7,7 @@ use Rattle.nano_text.proofs.RollbackLaws.{unchanged_by}
 use Rattle.nano_ron_schema.specs.FieldCodecs.{ron_fields}
 use Rattle.nano_ron_schema.proofs.WrittenFields.{more_lines}
 use Rattle.nano_ron_nested.proofs.WrittenLaws.{written_between}
-use Rattle.test_nested_shapes.proofs.NodeRonCodecsLaws.{node_ron_field_name, node_ron_field_at, node_ron_field_size, node_ron_field_tags, node_ron_field_groups, node_ron_field_effects, node_ron_field_path, node_ron_field_children, node_ron_text}
+use Rattle.test_nested_shapes.proofs.NodeRonCodecsLaws.{node_ron_field_name, node_ron_field_at, node_ron_field_size, node_ron_field_tags, node_ron_field_effects, node_ron_field_children, node_ron_text}
 use Rattle.test_nested_shapes.proofs.node.derived.+write_node_ron.Goals as goal
 use Rattle.std.proofs.Common.{◌≡◌, ◌∙◌, ℕ, List, [], Result, Ok, Err, OnErr, ap, append_assoc, append-nil, sym}
 use Rattle.std.proofs.lemmas.Result.{on_err_weaker}
@@ -41,49 +41,22 @@ NodeRonWriter::append_record-returns-clause-ok t c =
     let before = string_bytes c.args.s.now.out in
     let opened = string_bytes c.st_pre.new.self.out in
     let row =
-    more_lines inner (field_text ron_fields inner) (((node_ron_field_name x) ++ (node_ron_field_at x)) ++ ((node_ron_field_size x) ++ (node_ron_field_tags x))) (((node_ron_field_groups x) ++ (node_ron_field_effects x)) ++ ((node_ron_field_path x) ++ (node_ron_field_children x)))
-    opened (string_bytes c.append_required-4.new.s.out)
-    (string_bytes c.append_required_within.new.s.out) (more_lines inner (field_text ron_fields inner) ((node_ron_field_name x) ++ (node_ron_field_at x)) ((node_ron_field_size x) ++ (node_ron_field_tags x))
-    opened (string_bytes c.append_required-2.new.s.out)
-    (string_bytes c.append_required-4.new.s.out) (more_lines inner (field_text ron_fields inner) (node_ron_field_name x) (node_ron_field_at x)
+    more_lines inner (field_text ron_fields inner) ((node_ron_field_name x) ++ ((node_ron_field_at x) ++ (node_ron_field_size x))) ((node_ron_field_tags x) ++ ((node_ron_field_effects x) ++ (node_ron_field_children x)))
+    opened (string_bytes c.append_required-3.new.s.out)
+    (string_bytes c.append_required_within.new.s.out) (more_lines inner (field_text ron_fields inner) (node_ron_field_name x) ((node_ron_field_at x) ++ (node_ron_field_size x))
     opened (string_bytes c.append_required.new.s.out)
-    (string_bytes c.append_required-2.new.s.out) (c.in_ok-append_required.ensures.ok) (c.in_ok-append_required-2.ensures.ok)) (more_lines inner (field_text ron_fields inner) (node_ron_field_size x) (node_ron_field_tags x)
-    (string_bytes c.append_required-2.new.s.out) (string_bytes c.append_required-3.new.s.out)
-    (string_bytes c.append_required-4.new.s.out) (c.in_ok-append_required-3.ensures.ok) (c.in_ok-append_required-4.ensures.ok))) (more_lines inner (field_text ron_fields inner) ((node_ron_field_groups x) ++ (node_ron_field_effects x)) ((node_ron_field_path x) ++ (node_ron_field_children x))
-    (string_bytes c.append_required-4.new.s.out) (string_bytes c.append_required-6.new.s.out)
-    (string_bytes c.append_required_within.new.s.out) (more_lines inner (field_text ron_fields inner) (node_ron_field_groups x) (node_ron_field_effects x)
+    (string_bytes c.append_required-3.new.s.out) (c.in_ok-append_required.ensures.ok) (more_lines inner (field_text ron_fields inner) (node_ron_field_at x) (node_ron_field_size x)
+    (string_bytes c.append_required.new.s.out) (string_bytes c.append_required-2.new.s.out)
+    (string_bytes c.append_required-3.new.s.out) (c.in_ok-append_required-2.ensures.ok) (c.in_ok-append_required-3.ensures.ok))) (more_lines inner (field_text ron_fields inner) (node_ron_field_tags x) ((node_ron_field_effects x) ++ (node_ron_field_children x))
+    (string_bytes c.append_required-3.new.s.out) (string_bytes c.append_required-4.new.s.out)
+    (string_bytes c.append_required_within.new.s.out) (c.in_ok-append_required-4.ensures.ok) (more_lines inner (field_text ron_fields inner) (node_ron_field_effects x) (node_ron_field_children x)
     (string_bytes c.append_required-4.new.s.out) (string_bytes c.append_required-5.new.s.out)
-    (string_bytes c.append_required-6.new.s.out) (c.in_ok-append_required-5.ensures.ok) (c.in_ok-append_required-6.ensures.ok)) (more_lines inner (field_text ron_fields inner) (node_ron_field_path x) (node_ron_field_children x)
-    (string_bytes c.append_required-6.new.s.out) (string_bytes c.append_required-7.new.s.out)
-    (string_bytes c.append_required_within.new.s.out) (c.in_ok-append_required-7.ensures.ok) (c.in_ok-append_required_within.ensures.ok))) in
+    (string_bytes c.append_required_within.new.s.out) (c.in_ok-append_required-5.ensures.ok) (c.in_ok-append_required_within.ensures.ok))) in
     rw (node_ron_text c.args.d x)
     (on_ok_weaker c.st_post.result
-    (written_between c.args.d inner ((((node_ron_field_name x) ++ (node_ron_field_at x)) ++ ((node_ron_field_size x) ++ (node_ron_field_tags x))) ++ (((node_ron_field_groups x) ++ (node_ron_field_effects x)) ++ ((node_ron_field_path x) ++ (node_ron_field_children x)))) before opened
+    (written_between c.args.d inner (((node_ron_field_name x) ++ ((node_ron_field_at x) ++ (node_ron_field_size x))) ++ ((node_ron_field_tags x) ++ ((node_ron_field_effects x) ++ (node_ron_field_children x)))) before opened
     (string_bytes c.append_required_within.new.s.out) (string_bytes c.st_post.new.self.out) c.saturating_add-inner.ensures
     c.in_ok-st_pre.ensures.ok row) c.st_post.ensures.ok)
-
-pub NodeRonWriter::append_record-returns-in_err-append_required-6-clause-err :
-    goal.NodeRonWriter::append_record-returns-in_err-append_required-6-clause-err
-NodeRonWriter::append_record-returns-in_err-append_required-6-clause-err t c =
-    of_error _ (more_after _ _ _ _ c.in_ok-st_pre.ensures.ok
-    (more_after _ _ _ _ c.in_ok-append_required.ensures.ok
-    (more_after _ _ _ _ c.in_ok-append_required-2.ensures.ok
-    (more_after _ _ _ _ c.in_ok-append_required-3.ensures.ok
-    (more_after _ _ _ _ c.in_ok-append_required-4.ensures.ok
-    (more_after _ _ _ _ c.in_ok-append_required-5.ensures.ok
-    c.in_err-append_required-6.ensures.err))))))
-
-pub NodeRonWriter::append_record-returns-in_err-append_required-7-clause-err :
-    goal.NodeRonWriter::append_record-returns-in_err-append_required-7-clause-err
-NodeRonWriter::append_record-returns-in_err-append_required-7-clause-err t c =
-    of_error _ (more_after _ _ _ _ c.in_ok-st_pre.ensures.ok
-    (more_after _ _ _ _ c.in_ok-append_required.ensures.ok
-    (more_after _ _ _ _ c.in_ok-append_required-2.ensures.ok
-    (more_after _ _ _ _ c.in_ok-append_required-3.ensures.ok
-    (more_after _ _ _ _ c.in_ok-append_required-4.ensures.ok
-    (more_after _ _ _ _ c.in_ok-append_required-5.ensures.ok
-    (more_after _ _ _ _ c.in_ok-append_required-6.ensures.ok
-    c.in_err-append_required-7.ensures.err)))))))
 
 pub NodeRonWriter::append_record-returns-in_err-append_required_within-clause-err :
     goal.NodeRonWriter::append_record-returns-in_err-append_required_within-clause-err
@@ -94,9 +67,7 @@ NodeRonWriter::append_record-returns-in_err-append_required_within-clause-err t 
     (more_after _ _ _ _ c.in_ok-append_required-3.ensures.ok
     (more_after _ _ _ _ c.in_ok-append_required-4.ensures.ok
     (more_after _ _ _ _ c.in_ok-append_required-5.ensures.ok
-    (more_after _ _ _ _ c.in_ok-append_required-6.ensures.ok
-    (more_after _ _ _ _ c.in_ok-append_required-7.ensures.ok
-    c.in_err-append_required_within.ensures.err))))))))
+    c.in_err-append_required_within.ensures.err))))))
 
 pub NodeRonWriter::append_record-returns-clause-err :
     goal.NodeRonWriter::append_record-returns-clause-err
@@ -107,7 +78,5 @@ NodeRonWriter::append_record-returns-clause-err t c =
     (more_after _ _ _ _ c.in_ok-append_required-3.ensures.ok
     (more_after _ _ _ _ c.in_ok-append_required-4.ensures.ok
     (more_after _ _ _ _ c.in_ok-append_required-5.ensures.ok
-    (more_after _ _ _ _ c.in_ok-append_required-6.ensures.ok
-    (more_after _ _ _ _ c.in_ok-append_required-7.ensures.ok
     (more_after _ _ _ _ c.in_ok-append_required_within.ensures.ok
-    (no_more same))))))))))) c.st_post.ensures.err
+    (no_more same))))))))) c.st_post.ensures.err

@@ -1,0 +1,5 @@
+use Rattle.std.proofs.Common.{length}
+use Rattle.derive_text.proofs.output.nested_bodies.+taken.Given as goal
+
+abbrev pub decreases-taken : goal.decreases-taken
+decreases-taken l = length l.names.now
