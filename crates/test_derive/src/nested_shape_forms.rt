@@ -46,7 +46,7 @@ struct A {
 =>
         let (a, b_to_c) = values;
         let (b, c) = b_to_c;
-        A {
+        A { a, b, c }
 ----
 use std::collections::{HashMap, HashSet, LinkedList};
 
@@ -100,7 +100,7 @@ a_around = seen_layer a_view a_layer
 =>
 BValue::known-returns-in-C t c =
 =>
-AValue::known-returns-in-D t c =
+AValue::known-returns-in-D t c = rw c.in-D.is (a_legal_d c.in-D.first c.known.ensures)
 ----
 // nanoserde: json
 enum A {
