@@ -73,8 +73,10 @@ fn step_before(alloc: Global, held: &Held<'_>) -> Result<Option<String>, AllocEr
     };
     let mut step = call_of(alloc, BYTES, held)?;
     let mut counts = [0usize, 0];
-    let later = held.leaves.get(1..last).unwrap_or(&[]);
-    for leaf in later {
+    for (i, leaf) in held.leaves.iter().enumerate() {
+        if i == 0 || i >= last {
+            continue;
+        }
         let (call, place) = if leaf.nested.is_within() {
             ("append_part_within", 0)
         } else {
@@ -92,7 +94,7 @@ fn step_before(alloc: Global, held: &Held<'_>) -> Result<Option<String>, AllocEr
     if last == 0 {
         return Ok(None);
     }
-    if later.is_empty() {
+    if last == 1 {
         step = format!(in alloc; "{step}-in-{}", held.name)?;
     }
     Ok(Some(step))
