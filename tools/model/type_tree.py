@@ -103,7 +103,7 @@ NESTED = dict.fromkeys("Chain Expression Folder Json Menu Node Statement Term Tr
 NESTED["Rule"] = 5
 STRICT = {"Proxy"}  # these are `deny_unknown`
 PARAMETERS = {"Holder": 1, "Tagged": 2, "Reply": 2}
-ONLY = dict.fromkeys("Argument Command Term i128 u128".split(), "bin") | {"Message": "json", "Json": "bin json"}
+ONLY = dict.fromkeys("Command i128 u128".split(), "bin") | {"Message": "json", "Json": "bin json"}
 
 NAME = re.compile(r"\s*([A-Za-z]\w*|[()\[\]<>,;]|\d+)")
 CONTAINERS = {"Option": "option", "Vec": "list", "LinkedList": "linked",

@@ -81,6 +81,15 @@ def compare_newtype(impls, name, field):
     same(f"what `{name}` is seen as", {"x.0"}, set(seen))
 
 
+def taken_apart(schema):
+    """The names that `values` is taken apart into: by one pattern, or half by half."""
+    steps = {whole: pattern for pattern, whole in re.findall(r"let ([^;]*?) = (\w+);", schema)}
+    names = parts_of(steps.pop("values"))
+    while any(name.strip() in steps for name in names):
+        names = [part for name in names for part in parts_of(steps.get(name.strip(), name))]
+    return [name.strip() for name in names]
+
+
 def compare_struct(impls, name, attributes, content):
     kind, fields = content
     if kind == "Newtype":
@@ -105,19 +114,15 @@ def compare_struct(impls, name, attributes, content):
         [f"&self.{key}" for key in keys],
         [part.strip() for part in parts_of(handed)],
     )
-    taken = parts_of(re.search(r"let (.*?) = values;", schema, re.S)[1])
+    taken = taken_apart(schema)
     if kind in ("Struct", "Unit"):
-        same(f"what `{name}` is made from", keys, [part.strip() for part in taken])
+        same(f"what `{name}` is made from", keys, taken)
         compare_literal(name, fields, schema, rf"\n        {name}")
         row = impls.aliases[f"{name}Fields"] if read else "Unit"
         compare_fields(impls, name, fields, row, attributes.get("rename_all", ""))
     else:
         made = re.search(rf"\n        {name}\((.*?)\)", schema, re.S)[1]
-        same(
-            f"parts of `{name}`",
-            [part.strip() for part in taken],
-            [part.strip() for part in made.split(",")],
-        )
+        same(f"parts of `{name}`", taken, [part.strip() for part in made.split(",")])
         wanted = [field.type for field in read]
         got = re.search(r"type Values = (.*?);", schema, re.S)[1]
         same(f"types of `{name}`", wanted, flat(impls.expanded(tidy(got)), len(wanted)))

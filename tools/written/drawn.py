@@ -139,7 +139,7 @@ def drawn_nested(draw, name, formats, words):
     around, is_struct = [], draw.random() < 0.4
     if draw.random() < 0.4:
         lines.append("#[cycle(n)]")
-        around = drawn_around(draw, name, formats, words, not is_struct and formats == "bin")
+        around = drawn_around(draw, name, formats, words, not is_struct)
     parameters = [] if around else draw.sample(["T", "Key", "V2"], draw.choice([0, 0, 1, 2]))
     name += f"<{', '.join(parameters)}>" * bool(parameters)
     held = [draw.choice(AROUND).format(parameter) for parameter in parameters]

@@ -1,5 +1,5 @@
-//! Writes the impls of user-defined types that do not contain themselves, as text that `rt fmt` leaves
-//! as it is; and what any impls are written with: sheets, names, layouts, rows of fields.
+//! Writes the impls of user-defined types that do not contain themselves, as text that `rt fmt`
+//! leaves as it is; and what any impls are written with: sheets, names, layouts, rows of fields.
 #![tactic(auto)]
 
 mod agreement;
@@ -25,6 +25,7 @@ pub mod records;
 pub mod rows;
 mod seen;
 pub mod sheet;
+pub mod taking;
 pub mod target;
 mod transparent;
 pub mod tuples;

@@ -8,6 +8,7 @@ use crate::layout::{Brackets, Items, Piece, list};
 use crate::rows::{append_row, laid_pairs, paired};
 use crate::seen::{Seen, append_seen};
 use crate::sheet::Sheet;
+use crate::taking::fields_taken;
 use crate::target::Target;
 use derive_syntax::Field;
 use std::alloc::{AllocError, Global};
@@ -42,7 +43,7 @@ fn seen<'a>(
         types: laid(alloc, in_row, "$TYPE", Items::Types, (4, 18))?,
         refs: laid(alloc, in_row, "&'a $TYPE", Items::Types, (4, 16))?,
         view: laid_pairs(alloc, &field_texts(alloc, in_row, "x.$NAME")?, 4, (24, 3))?,
-        pattern: laid(alloc, in_row, "$NAME", Items::Patterns, (8, 12))?,
+        taken: fields_taken(alloc, in_row, "values", 8)?,
         made: made(alloc, target, fields)?.laid,
         borrowed: laid(alloc, in_row, "&self.$NAME", Items::Values, (8, 7))?,
     })

@@ -13,9 +13,9 @@ pub(crate) struct Seen {
     pub(crate) refs: String,
     /// The values of the struct `x`, in a ghost term.
     pub(crate) view: String,
-    /// A pattern of the values.
-    pub(crate) pattern: String,
-    /// The struct, made of what the pattern binds.
+    /// Lines that take `values` apart.
+    pub(crate) taken: String,
+    /// The struct, made of what these bind.
     pub(crate) made: String,
     /// References to the values of `self`.
     pub(crate) borrowed: String,
@@ -28,8 +28,7 @@ impl$BOUNDS nano_schema::StructSchema for $FULL$OPEN
     ghost view = { λ x. $VIEW };
 
     fn make(values: Self::Values) -> Self {
-        let $PATTERN = values;
-        $MADE
+$TAKEN        $MADE
     }
 }
 
@@ -65,7 +64,7 @@ pub(crate) fn append_seen<'a>(
     holes.put("FIELDS", seen.types.as_str());
     holes.put("PARTS", seen.refs.as_str());
     holes.put("VIEW", seen.view.as_str());
-    holes.put("PATTERN", seen.pattern.as_str());
+    holes.put("TAKEN", seen.taken.as_str());
     holes.put("MADE", seen.made.as_str());
     holes.put("BORROWED", seen.borrowed.as_str());
     sheet.write(RECORD, &holes)

@@ -56,11 +56,12 @@ fn seen<'a>(alloc: Global, target: &Target<'a>, parts: &[Type<'a>]) -> Result<Se
     let view = named(alloc, "x.", &PLACES, count)?;
     let open = format!(in alloc; "{}(", target.name.text)?;
     let made = (open.as_str(), ")");
+    let pattern = bracketed(alloc, ("(", ")"), &names, Items::Patterns, (8, 12))?.laid;
     Ok(Seen {
         types: target.values.clone()?,
         refs: bracketed(alloc, ("(", ")"), &refs, Items::Types, (4, 16))?.laid,
         view: bracketed(alloc, ("(", ")"), &view, Items::Values, (0, 0))?.flat,
-        pattern: bracketed(alloc, ("(", ")"), &names, Items::Patterns, (8, 12))?.laid,
+        taken: format!(in alloc; "        let {pattern} = values;\n")?,
         made: bracketed(alloc, made, &names, Items::Values, (8, 8))?.laid,
         borrowed: bracketed(alloc, ("(", ")"), &borrowed, Items::Values, (8, 7))?.laid,
     })

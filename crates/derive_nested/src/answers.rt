@@ -10,7 +10,7 @@ use crate::known_struct::known_struct;
 use crate::nested::Nested;
 use crate::parameters::{Format, first_of};
 use crate::ron_answers::ron_writer;
-use crate::text_answers::text_reader;
+use crate::text_answers::text_readers;
 use crate::text_codec::{JSON, RON, TextTerms};
 use derive_syntax::{Attributes, codecs_name, crate_of};
 use std::alloc::{AllocError, Global};
@@ -56,11 +56,11 @@ pub(crate) fn answers_of(
     }
     if attributes.json.is_used() {
         let writer = json_writer(alloc, members, &place)?;
-        own.append_texts(&JSON, (first, &place), writer)?;
+        own.append_texts(members, &JSON, (first, &place), writer)?;
     }
     if attributes.ron.is_used() {
         let writer = ron_writer(alloc, members, &place)?;
-        own.append_texts(&RON, (first, &place), writer)?;
+        own.append_texts(members, &RON, (first, &place), writer)?;
     }
     Ok(files)
 }
@@ -86,16 +86,16 @@ impl Own<'_, '_, '_> {
         Ok(self.files.push(Answers { path, text })?)
     }
 
-    /// Appends the answers for what reads and writes a format of texts: only the root takes those
-    /// of the reader.
+    /// Appends the answers for what reads and writes these types in a format of texts.
     fn append_texts(
         &mut self,
+        members: &[Nested<'_>],
         format: &TextTerms,
         (first, place): (Format, &Place<'_>),
         writer: Option<Answers>,
     ) -> Result<(), AllocError> {
         let (alloc, nested, name) = (self.alloc, self.nested, format.name);
-        self.append(name, Some(text_reader(alloc, nested, format, place)?))?;
+        self.append(name, text_readers(alloc, members, format, place)?)?;
         self.append(name, later_reader(alloc, nested, format, (first, place))?)?;
         self.append(name, with_writer(alloc, nested, (name, place), writer)?)
     }

@@ -166,7 +166,7 @@ fn value_of(
         text.push_str(part.as_str())?;
     }
     if nested.is_enum {
-        format!(in alloc; "({}-F.{}{text})", nested.names.of, held.name)
+        format!(in alloc; "({}-F.{}{text})", nested.names.of, held.constructor)
     } else {
         format!(in alloc; "(record {{{text} }})")
     }

@@ -2,7 +2,7 @@
 //! all of them.
 
 use crate::part::Names;
-use derive_syntax::{Case, Cycle, Holes, Shape, Source};
+use derive_syntax::{Case, Cycle, Definition, Holes, Shape, Source};
 use std::alloc::{AllocError, Global};
 
 /// The types of a cycle.
@@ -57,6 +57,36 @@ fn sorted<'a>(
     }
     names.sort()?;
     Ok(names)
+}
+
+/// What the prover calls a variant of an enum beside those of all types of a cycle: by its name, or
+/// by that of the enum and its own where another enum has a variant of that name.
+pub(crate) fn constructor_of<'a>(
+    alloc: Global,
+    source: &Source<'a>,
+    cycle: &Cycle<'a>,
+    (of, variant): (&str, &str),
+) -> Result<String, AllocError> {
+    for definition in &source.definitions {
+        let is_other = definition.name.text != of && definition.name.is_among(&cycle.names);
+        if is_other && has_variant(definition, variant) {
+            return format!(in alloc; "{of}::{variant}");
+        }
+    }
+    String::from_str(alloc, variant)
+}
+
+/// Whether a type is an enum with a variant of this name.
+fn has_variant(definition: &Definition<'_>, name: &str) -> bool {
+    let Shape::Variants(variants) = &definition.shape else {
+        return false;
+    };
+    for variant in variants {
+        if variant.name.text == name {
+            return true;
+        }
+    }
+    false
 }
 
 impl Members {

@@ -117,8 +117,8 @@ fn pattern(alloc: Global, nested: &Nested<'_>, held: &Held<'_>) -> Result<String
         return String::from_str(alloc, "y");
     }
     let (name, values) = (nested.names.of.as_str(), held.values(alloc)?);
-    let constructor = format!(in alloc; "{name}-F.{}{values}", held.name)?;
-    atom(alloc, constructor.as_str())
+    let value = format!(in alloc; "{name}-F.{}{values}", held.constructor)?;
+    atom(alloc, value.as_str())
 }
 
 // ---- what it means, and how deep it is

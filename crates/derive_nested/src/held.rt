@@ -14,6 +14,9 @@ use std::alloc::{AllocError, Global};
 pub(crate) struct Held<'a> {
     /// The name of the variant, or nothing.
     pub(crate) name: String,
+    /// What the prover calls the variant beside those of all types that contain each other, or
+    /// nothing.
+    pub(crate) constructor: String,
     /// What the variant is called in texts, or nothing.
     pub(crate) key: String,
     /// Whether it has named fields.
@@ -40,19 +43,16 @@ pub(crate) fn struct_held<'a>(
         leaves.push(leaf_of(alloc, cycle, field.of, (i, value), Some(*field))?)?;
         called.push(String::from_str(alloc, called_so)?)?;
     }
-    held_of(
-        alloc,
-        (String::new(alloc), String::new(alloc)),
-        true,
-        (called, leaves),
-    )
+    let none = (String::new(alloc), String::new(alloc), String::new(alloc));
+    held_of(alloc, none, true, (called, leaves))
 }
 
-/// What a variant holds.
+/// What a variant holds, which the prover calls so beside those of all types of a cycle.
 pub(crate) fn variant_held<'a>(
     alloc: Global,
     cycle: &Cycle<'a>,
     variant: &Variant<'a>,
+    constructor: String,
 ) -> Result<Held<'a>, Fault> {
     let mut leaves = Vec::new(alloc);
     let types = types_of(alloc, &variant.content)?;
@@ -69,7 +69,7 @@ pub(crate) fn variant_held<'a>(
     let called = called_in(alloc, &variant.content)?;
     let own = String::from_str(alloc, variant.name.text)?;
     let key = variant_name(alloc, variant, None)?;
-    held_of(alloc, (own, key), has_fields, (called, leaves))
+    held_of(alloc, (own, constructor, key), has_fields, (called, leaves))
 }
 
 /// The field of a variant at its place, if its fields have names.
@@ -80,15 +80,17 @@ fn field_at<'a>(content: &Content<'a>, i: usize) -> Option<Field<'a>> {
     }
 }
 
-/// Parts together, of a variant of this name, which is called so in texts, or of a struct.
+/// Parts together, of a variant of this name, which is called so by the prover and in texts, or of
+/// a struct.
 fn held_of<'a>(
     alloc: Global,
-    (name, key): (String, String),
+    (name, constructor, key): (String, String, String),
     has_fields: bool,
     (called, leaves): (Vec<String>, Vec<Leaf<'a>>),
 ) -> Result<Held<'a>, Fault> {
     Ok(Held {
         name,
+        constructor,
         key,
         has_fields,
         called,

@@ -1,5 +1,5 @@
-//! The answers to what is to be proved of what writes named fields of a type that contains itself in
-//! JSON.
+//! The answers to what is to be proved of what writes named fields of a type that contains itself
+//! in JSON.
 
 use crate::answers::{Answers, HEAD, Place};
 use crate::brought::content_names;
@@ -13,8 +13,8 @@ use crate::text_layers::content_name;
 use derive_syntax::{Case, Holes};
 use std::alloc::{AllocError, Global};
 
-/// The answers for what writes structs in JSON, and the variants with named fields of enums, of types
-/// that contain each other or of one that contains itself, if there are such.
+/// The answers for what writes structs in JSON, and the variants with named fields of enums, of
+/// types that contain each other or of one that contains itself, if there are such.
 pub(crate) fn json_writer(
     alloc: Global,
     members: &[Nested<'_>],
@@ -93,7 +93,7 @@ fn cited_definitions(
 use Rattle.nano_json_tokens.specs.Written.{{written_text}}
 use Rattle.{library}.specs.{stem}JsonCodecs.{{{}_json{contents}}}
 ",
-        nested.names.snake
+        nested.root().snake
     )
 }
 

@@ -1,6 +1,6 @@
 //! A type that contains itself, as what is written says it.
 
-use crate::cycle::{Members, members_of, names_of};
+use crate::cycle::{Members, constructor_of, members_of, names_of};
 use crate::held::{Held, struct_held, variant_held};
 use crate::parameters::{Format, first_of};
 use crate::part::Names;
@@ -74,7 +74,9 @@ pub(crate) fn nested_of<'a>(
     };
     if let Some(variants) = variants {
         for variant in variants {
-            contents.push(variant_held(alloc, &cycle, variant)?)?;
+            let names = (definition.name.text, variant.name.text);
+            let constructor = constructor_of(alloc, source, &cycle, names)?;
+            contents.push(variant_held(alloc, &cycle, variant, constructor)?)?;
         }
     }
     let mut parameters = Vec::new(alloc);

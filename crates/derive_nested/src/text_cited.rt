@@ -3,7 +3,7 @@
 use crate::imports::Known;
 
 /// Those that every format of texts cites.
-pub(crate) const TEXTS: [Known; 13] = [
+pub(crate) const TEXTS: [Known; 14] = [
     Known {
         module: "nano_grammar.specs.FieldCodec",
         names: &["WrittenField", "fields_text"],
@@ -51,6 +51,10 @@ pub(crate) const TEXTS: [Known; 13] = [
     Known {
         module: "nano_schema_levels.proofs.MapLayersLaws",
         names: &["follows_order", "ordered_map_layer"],
+    },
+    Known {
+        module: "nano_schema_levels.proofs.AroundLaws",
+        names: &["choice_as"],
     },
     Known {
         module: "nano_schema_levels.proofs.NestedLaws",

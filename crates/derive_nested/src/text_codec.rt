@@ -112,7 +112,7 @@ pub(crate) fn text_codecs(
     }
     for nested in root_first(alloc, members)? {
         let codec = if nested.is_around() {
-            format.holes(alloc, nested)?.fill(AROUND)?
+            around(alloc, nested, format)?
         } else {
             codec(alloc, nested, format, before)?
         };
@@ -125,14 +125,28 @@ pub(crate) fn text_codecs(
 }
 
 /// The codecs of a type that is a layer around values of the root.
+fn around(alloc: Global, nested: &Nested<'_>, format: &TextTerms) -> Result<String, AllocError> {
+    let mut holes = format.holes(alloc, nested)?;
+    let codec = holes.fill(if nested.is_enum { CHOICE } else { RECORD })?;
+    holes.put("CODED", codec.as_str());
+    holes.fill(AROUND)
+}
+
 const AROUND: &str = "
 -- `$NAME`, around values of at most so many levels, and around those that are read
 abbrev pub $SNAKE_$INFIXat : ℕ → Codec $NAME
 $SNAKE_$INFIXat levels = $SNAKE_around.codec ($BASE_$INFIXat levels)
 
 abbrev pub $SNAKE_$SUFFIX : Codec $NAME
-$SNAKE_$SUFFIX = $SNAKE_around.codec $BASE_$SUFFIX
+$SNAKE_$SUFFIX =$CODED
 ";
+
+const RECORD: &str = " $SNAKE_around.codec $BASE_$SUFFIX";
+
+// What encodes an enum is not the same by computing where something else is legal inside.
+const CHOICE: &str = "
+    choice_as $SNAKE_view $SNAKE_$INFIXvariants (λ f. refl) (λ f. refl) $BASE_$SUFFIX
+    ($BASE_$INFIXat $LIMIT) refl";
 
 /// The layer around values of the type itself.
 fn layer(alloc: Global, nested: &Nested<'_>, format: &TextTerms) -> Result<String, AllocError> {

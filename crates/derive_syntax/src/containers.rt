@@ -36,7 +36,8 @@ const NO_KEY: &str = "is no key of a map or a set in a type that contains itself
 ///
 /// # Errors
 ///
-/// Its keys are of another type than keys may have, or an allocation fails.
+/// Its keys are of another type than keys may have, the length of an array is no decimal number, or
+/// an allocation fails.
 pub(crate) fn container_of<'a>(
     alloc: Global,
     of: Type<'a>,
@@ -44,7 +45,7 @@ pub(crate) fn container_of<'a>(
     if let Some(parts) = tuple_parts(of) {
         return Ok(tuple_of(alloc, parts)?);
     }
-    if let Some((item, count)) = array_of(of) {
+    if let Some((item, count)) = array_of(of)? {
         return Ok(Some((Container::Array(count), one(alloc, item)?)));
     }
     let (Some(word), Some(held)) = (of.0.first(), between(of)) else {
@@ -81,18 +82,36 @@ fn tuple_of<'a>(
     Ok(Some((Container::Tuple, types)))
 }
 
+const NO_LENGTH: &str = "is no length of an array in a type that contains itself: such a length is \
+    written in decimal digits alone";
+
 /// The type of the items of an array, and how many there are.
-fn array_of<'a>(of: Type<'a>) -> Option<(Type<'a>, &'a str)> {
+///
+/// # Errors
+///
+/// The number is written in another way than in decimal digits.
+fn array_of<'a>(of: Type<'a>) -> Result<Option<(Type<'a>, &'a str)>, Fault> {
     match of.0 {
         [open, item @ .., semicolon, count, close]
             if open.is("[") && semicolon.is(";") && close.is("]") => {
             match count.kind {
-                TokenKind::Number => Some((Type(item), count.text)),
-                _ => None,
+                TokenKind::Number if is_decimal(count.text) => Ok(Some((Type(item), count.text))),
+                TokenKind::Number => Err(count.fault(NO_LENGTH)),
+                _ => Ok(None),
             }
         }
-        _ => None,
+        _ => Ok(None),
     }
+}
+
+/// Whether a number has decimal digits alone, of which the first is no 0 before others.
+fn is_decimal(number: &str) -> bool {
+    for c in number.chars() {
+        if !c.is_ascii_digit() {
+            return false;
+        }
+    }
+    number.len() < 2 || !number.starts_with('0')
 }
 
 /// What stands between the angle brackets of a type, without a comma at its end.

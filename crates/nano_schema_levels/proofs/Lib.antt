@@ -4,6 +4,7 @@ pub mod MapLayersLaws
 pub mod FieldLayersLaws
 pub mod VariantLayersLaws
 pub mod NestedLaws
+pub mod AroundLaws
 pub mod LegalLevelsLaws
 pub mod ReadingLaws
 pub mod StepsLaws

@@ -8,6 +8,8 @@ mod case_faults;
 #[cfg(test)]
 mod case_tests;
 #[cfg(test)]
+mod collection_faults;
+#[cfg(test)]
 mod cycle_faults;
 #[cfg(test)]
 mod cycle_forms;

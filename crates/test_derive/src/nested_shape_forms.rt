@@ -37,6 +37,24 @@ enum A {
 =>
     #[cycle(read_b_bin)]
 ----
+// nanoserde: json
+#[cycle(a)]
+enum B {
+    C(Box<A>),
+    D,
+}
+
+// nanoserde: json
+#[cycle(a)]
+enum A {
+    D(B),
+    F { b: Vec<B> },
+}
+=>
+        match read_choice_json_within::<Levels, AVariants>(self, left, alloc, state, input) {
+=>
+            ((a_json_content_f.codec b_json).canonical.text d v0.now)) }
+----
 // nanoserde: bin
 struct A {
     a: Vec<A>,
@@ -101,6 +119,39 @@ a_around = seen_layer a_view a_layer
 BValue::known-returns-in-C t c =
 =>
 AValue::known-returns-in-D t c = rw c.in-D.is (a_legal_d c.in-D.first c.known.ensures)
+----
+// nanoserde: json ron, levels = "9"
+#[cycle(a)]
+enum B {
+    C(u8, Box<B>, Vec<A>),
+    E(u8),
+}
+
+// nanoserde: json ron
+#[cycle(a)]
+enum A {
+    D(B),
+    E,
+}
+=>
+a_opened A-F.A::E = Later (tt {0})
+=>
+b_opened (B-F.C v0 v1 v2) = First (v0, (v1, v2))
+b_opened (B-F.B::E v) = Later v
+=>
+a_json_at levels = a_around.codec (b_json_at levels)
+
+abbrev pub a_json : Codec A
+a_json =
+    choice_as a_view a_json_variants (λ f. refl) (λ f. refl) b_json
+    (b_json_at 9) refl
+=>
+    layer_text a_view a_ron_layer b_ron d A-E (Later (tt {0})) a_view_e
+=>
+pub LevelsReadsRonA::read_ron-returns-in-Ok : goal.LevelsReadsRonA::read_ron-returns-in-Ok
+LevelsReadsRonA::read_ron-returns-in-Ok t c =
+    layer_read a_view a_ron_layer (b_ron_at c.args.left) b_means
+    c.make.result c.in-Ok.values c.make.ensures c.in-Ok.ensures.read
 ----
 // nanoserde: json
 enum A {

@@ -1,5 +1,6 @@
 //! Types that contain themselves: what is written of them, and what is not.
 
+use crate::collection_faults::COLLECTIONS;
 use crate::cycle_faults::CYCLES;
 use crate::cycle_forms::{CYCLE_FILES, CYCLE_IMPLS};
 use crate::fault_tests::are_reported;
@@ -94,5 +95,6 @@ fn other_types_have_no_files(rt: HostRuntime) {
 #[test]
 fn a_type_contains_itself_in_some_ways_alone(rt: HostRuntime) {
     are_reported(&rt, rt.alloc(), NESTED);
+    are_reported(&rt, rt.alloc(), COLLECTIONS);
     are_reported(&rt, rt.alloc(), CYCLES);
 }

@@ -2,3 +2,5 @@ mod TermCodecsLaws
 mod NodeCodecsLaws
 mod NodeJsonCodecsLaws
 mod NodeRonCodecsLaws
+mod TermJsonCodecsLaws
+mod TermRonCodecsLaws

@@ -2,3 +2,5 @@ pub mod TermCodecs
 pub mod NodeCodecs
 pub mod NodeJsonCodecs
 pub mod NodeRonCodecs
+pub mod TermJsonCodecs
+pub mod TermRonCodecs

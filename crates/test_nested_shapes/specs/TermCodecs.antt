@@ -1,14 +1,16 @@
 -- Written by derive_files: types that contain themselves, and their codecs.
 use Rattle.std.specs.Prelude.{◌≡◌, ℕ, ℤ, suc, max, map, refl, Bool, Box, Option, String, Vec, string_bytes}
 use Rattle.std.specs.Global.{Global}
+use Rattle.std.specs.Int.{w64}
 use Rattle.std.specs.Option.{option_map}
 use Rattle.std.proofs.Common.{◌∙◌, ap, lit≤}
-use Rattle.nano_value.specs.Meaning.{Meaning, nothing, truth, number, whole, text, optional, listed, paired}
-use Rattle.nano_value.specs.Sums.{tagged}
+use Rattle.nano_value.specs.Meaning.{Meaning, nothing, truth, number, whole, text, optional, listed, paired, LegalUnsigned, LegalSigned, LegalTruth, LegalUnit, LegalText, LegalOption, LegalList, LegalPair}
+use Rattle.nano_value.specs.Sums.{tagged, LegalVariant, variant, no_variants}
 use Rattle.nano_levels.specs.Layers.{greatest}
 use Rattle.nano_schema.specs.declared.choices.Either.{Either}
 use Rattle.nano_schema.specs.declared.choices.Either.TheVariants.{First, Later}
 use Rattle.nano_schema.specs.Choices.{either_is}
+use Rattle.nano_schema_levels.specs.LegalLevels.{LegalStep}
 use Rattle.nano_schema_levels.specs.Depths.{held_depth}
 use Rattle.nano_schema_levels.proofs.StepsLaws.{by_option, list_depth, list_means, pair_means}
 use Rattle.nano_bin_bytes.specs.Codec.{Codec}
@@ -104,6 +106,18 @@ argument_means x =
     (either_is (λ (v : Term). tagged 0 (term_means v))
     (either_is (λ (v : String Global × Option (Box Term Global)). tagged 1 (paired (text (string_bytes v.0), optional (option_map (λ x. term_means x.value) v.1))))
     (λ (v : Unit {0}). tagged 2 nothing))) (argument_view x)
+
+-- ---- which meanings are legal, given those that are of the values in it
+
+abbrev pub argument_step : LegalStep
+argument_step P =
+    LegalVariant (variant P (variant (LegalPair LegalText (LegalOption P)) (variant LegalUnit no_variants)))
+
+-- ---- which meanings are legal, given those that are of the values in it
+
+abbrev pub term_step : LegalStep
+term_step P =
+    LegalVariant (variant (LegalSigned w64) (variant (LegalPair LegalText (LegalList (argument_step P))) (variant (LegalPair P (LegalPair P P)) (variant (LegalPair (LegalUnsigned 32) (LegalPair LegalTruth P)) no_variants))))
 
 -- ---- as bytes: the layer around the values in it, and the codec
 

@@ -1,7 +1,7 @@
 //! Terms and their arguments, which are enums that contain each other.
 
 /// A term.
-// nanoserde: bin
+// nanoserde: bin json ron
 #[derive(PartialEq, Debug, Drop)]
 #[cycle(term)]
 pub enum Term {
@@ -16,7 +16,7 @@ pub enum Term {
 }
 
 /// What a call is given.
-// nanoserde: bin
+// nanoserde: bin json ron
 #[derive(PartialEq, Debug, Drop)]
 #[cycle(term)]
 pub enum Argument {

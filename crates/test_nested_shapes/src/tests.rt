@@ -50,6 +50,18 @@ const NODE_RON: &str = "(
     ],
 )";
 
+const CALL_JSON: &str =
+    r#"{"Call":["f",["Rest",{"Plain":[{"Number":[7]}]},{"Named":{"name":"x","value":{"Number":[5]}}}]]}"#;
+
+const CALL_RON: &str = "Call(\"f\", [
+    Rest,
+    Plain(Number(7)),
+    Named(
+        name:\"x\",
+        value:Number(5),
+    ),
+])";
+
 /// Stops where a condition does not hold.
 fn holds(rt: &impl Abort, condition: bool, what: &str) {
     assert!(rt; condition, "{what}");
@@ -103,6 +115,15 @@ fn terms_and_arguments_are_read_and_written_back(rt: HostRuntime) {
     holds(&rt, is_code::<Term>(alloc, CALL), "a call");
     holds(&rt, is_code::<Argument>(alloc, ARGUMENT), "an argument");
     holds(&rt, !is_code::<Argument>(alloc, IF), "no argument");
+    holds(&rt, is_json::<Term>(alloc, CALL_JSON), "a call in JSON");
+    holds(&rt, is_ron::<Term>(alloc, CALL_RON), "a call in RON");
+    let argument = r#"{"Named":{"name":"x"}}"#;
+    holds(
+        &rt,
+        is_json::<Argument>(alloc, argument),
+        "an argument in JSON",
+    );
+    holds(&rt, is_ron::<Argument>(alloc, "Rest"), "an argument in RON");
 }
 
 #[test]

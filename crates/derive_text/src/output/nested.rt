@@ -84,25 +84,13 @@ fn append_record<'a>(
     Ok(())
 }
 
-const AROUND_TEXT: &str =
-    "is an enum that leads back to itself through another type: in JSON and RON \
-    such a type is a struct with named fields, or the one on each way back";
-
 /// Appends the impls of an enum.
-///
-/// # Errors
-///
-/// It is none of the levels that are counted, and has a format of texts; or an allocation fails.
 fn append_choice<'a>(
     sheet: &mut Sheet,
     target: &Target<'a>,
     variants: &[Variant<'a>],
 ) -> Result<(), Fault> {
     let attributes = target.attributes;
-    let has_text = attributes.json.is_used() || attributes.ron.is_used();
-    if target.is_around() && has_text {
-        return Err(target.name.fault(AROUND_TEXT));
-    }
     let row = append_choice_row(sheet, target, variants)?;
     let known = known_arms(sheet, variants)?;
     let write = if attributes.bin.is_used() {

@@ -2,9 +2,10 @@
 
 use derive_impls::fields::field_texts;
 use derive_impls::layout::{COLUMNS, Items, width};
-use derive_impls::records::{laid, made};
+use derive_impls::records::made;
 use derive_impls::rows::paired;
 use derive_impls::sheet::Sheet;
+use derive_impls::taking::{blanks, fields_taken, is_array, taken};
 use derive_impls::target::Target;
 use derive_impls::tuples::named;
 use derive_impls::variants::{PARTS, named_variant};
@@ -18,54 +19,8 @@ pub(crate) fn record_making<'a>(
     fields: &[Field<'a>],
 ) -> Result<String, AllocError> {
     let made = made(alloc, target, fields)?.laid;
-    let mut names = Vec::new(alloc);
-    let mut has_array = false;
-    for field in fields {
-        names.push(String::from_str(alloc, field.name.text)?)?;
-        has_array = has_array || is_array(field.of);
-    }
-    if has_array && names.len() > 2 {
-        let taken = taken(alloc, &names, ("        ", "values"))?;
-        return format!(in alloc; "{taken}        {made}\n");
-    }
-    let pattern = laid(alloc, fields, "$NAME", Items::Patterns, (8, 12))?;
-    format!(in alloc; "        let {pattern} = values;\n        {made}\n")
-}
-
-/// Whether a type is an array: the prover takes one out of nested pairs step by step alone.
-fn is_array(of: Type<'_>) -> bool {
-    match of.0.first() {
-        Some(token) => token.is("["),
-        None => false,
-    }
-}
-
-/// Lines, each after such an indent, that take nested pairs of so many values apart, each half at
-/// a time.
-fn taken(
-    alloc: Global,
-    names: &[String],
-    (indent, whole): (&str, &str),
-) -> Result<String, AllocError> {
-    let (first, second) = names.split_at(names.len() / 2);
-    if names.len() < 2 {
-        return Ok(String::new(alloc));
-    }
-    let one = together(alloc, first)?;
-    let other = together(alloc, second)?;
-    let mut lines = format!(in alloc; "{indent}let ({one}, {other}) = {whole};\n")?;
-    lines.push_str(taken(alloc, first, (indent, one.as_str()))?.as_str())?;
-    lines.push_str(taken(alloc, second, (indent, other.as_str()))?.as_str())?;
-    Ok(lines)
-}
-
-/// What values together are called, or one alone.
-fn together(alloc: Global, names: &[String]) -> Result<String, AllocError> {
-    match names {
-        [name] => name.clone(),
-        [first, .., last] => format!(in alloc; "{first}_to_{last}"),
-        [] => Ok(String::new(alloc)),
-    }
+    let taken = fields_taken(alloc, fields, "values", 8)?;
+    format!(in alloc; "{taken}        {made}\n")
 }
 
 /// The body that makes an enum of the content of its variant: for each variant but the last one
@@ -98,7 +53,7 @@ fn tested<'a>(
     of: &str,
     either: &str,
 ) -> Result<String, AllocError> {
-    let content = content_taken(alloc, variant, "values", (16, 20))?;
+    let content = content_taken(alloc, variant, "values", 16)?;
     let made = named_variant(alloc, variant, Items::Values, (16, 19))?;
     format!(in alloc;
         "        let later = match {of} {{
@@ -112,24 +67,18 @@ fn tested<'a>(
 
 /// What makes the last variant of its content.
 fn last_made<'a>(alloc: Global, variant: &Variant<'a>, of: &str) -> Result<String, AllocError> {
-    let content = content_taken(alloc, variant, of, (8, 12))?;
+    let content = content_taken(alloc, variant, of, 8)?;
     let made = named_variant(alloc, variant, Items::Values, (8, 4))?;
     format!(in alloc; "{content}        {made}\n")
 }
 
-/// Lines that take the content of a variant apart, which something is, on lines that are indented so
-/// far, after so many columns of the first.
+/// Lines, each indented so far, that take the content of a variant apart, which something is.
 fn content_taken<'a>(
     alloc: Global,
     variant: &Variant<'a>,
     of: &str,
-    (indent, before): (usize, usize),
+    indent: usize,
 ) -> Result<String, AllocError> {
-    let blanks = if indent == 8 {
-        "        "
-    } else {
-        "                "
-    };
     let mut names = Vec::new(alloc);
     let mut has_array = false;
     for part in parts_of(alloc, &variant.content)? {
@@ -137,24 +86,11 @@ fn content_taken<'a>(
         names.push(part.name)?;
     }
     if has_array && names.len() > 2 {
-        return taken(alloc, &names, (blanks, of));
+        return taken(alloc, &names, (blanks(indent), of));
     }
-    let pattern = pattern_of(alloc, variant, (indent, before))?;
-    format!(in alloc; "{blanks}let {pattern} = {of};\n")
-}
-
-/// The content of a variant as nested pairs of names, on a line that is indented so far, after so
-/// many columns of it.
-fn pattern_of<'a>(
-    alloc: Global,
-    variant: &Variant<'a>,
-    (indent, before): (usize, usize),
-) -> Result<String, AllocError> {
-    let mut names = Vec::new(alloc);
-    for part in parts_of(alloc, &variant.content)? {
-        names.push(part.name)?;
-    }
-    Ok(paired(alloc, names, Items::Patterns, indent, before)?.laid)
+    let before = indent.saturating_add("let ".len());
+    let pattern = paired(alloc, names, Items::Patterns, indent, before)?.laid;
+    format!(in alloc; "{}let {pattern} = {of};\n", blanks(indent))
 }
 
 /// A part of what a variant holds, or a field of a struct.

@@ -124,7 +124,8 @@ fn append_content<'a>(
     let lines = json_fields(sheet, target, fields, (leaves, "v"))?;
     holes.put("TEXTS", specs_of(alloc, target.module, "Json")?.as_str());
     holes.put("FIELDS", lines.as_str());
-    let codec = format!(in alloc; "{of}_json")?;
+    let root = Case::Snake.of_variant(alloc, target.root.text)?;
+    let codec = format!(in alloc; "{root}_json")?;
     let written = given_term(alloc, target, codec.as_str(), JSON.name)?;
     let laid = given_term(alloc, target, content.as_str(), JSON.name)?;
     holes.put("IS_WRITTEN", written.as_str());

@@ -1,5 +1,5 @@
 use Rattle.std.proofs.Common.{length}
-use Rattle.derive_text.proofs.output.nested_bodies.+taken.Given as goal
+use Rattle.derive_impls.proofs.taking.+taken.Given as goal
 
 abbrev pub decreases-taken : goal.decreases-taken
 decreases-taken l = length l.names.now
