@@ -97,7 +97,11 @@ impl Own<'_, '_, '_> {
         let (alloc, nested, name) = (self.alloc, self.nested, format.name);
         self.append(name, text_readers(alloc, members, format, place)?)?;
         self.append(name, later_reader(alloc, nested, format, (first, place))?)?;
-        self.append(name, with_writer(alloc, nested, (name, place), writer)?)
+        let mut writer = writer;
+        for member in members {
+            writer = with_writer(alloc, member, (name, place), writer)?;
+        }
+        self.append(name, writer)
     }
 }
 

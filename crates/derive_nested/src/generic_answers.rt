@@ -1,7 +1,7 @@
-//! The answers to what is to be proved of what writes each variant of an enum with parameters,
-//! which the search finds for a type without.
+//! The answers to what is to be proved of what writes each variant of an enum with parameters, and
+//! variants of three parts in texts. The search finds those for other variants.
 
-use crate::answers::{Answers, HEAD, Place};
+use crate::answers::{Answers, Goals, HEAD, Place, goals_of};
 use crate::codec_laws::law_end;
 use crate::held::Held;
 use crate::nested::Nested;
@@ -100,8 +100,8 @@ fn step_before(alloc: Global, held: &Held<'_>) -> Result<Option<String>, AllocEr
     Ok(Some(step))
 }
 
-/// The answers for what writes an enum with parameters, variant by variant, to goals whose names
-/// begin so, and the names of the laws that they cite. There are none for another type.
+/// The answers for what writes an enum, variant by variant, to goals whose names begin so, and the
+/// names of the laws that they cite. There are none for a struct.
 fn arms(
     alloc: Global,
     nested: &Nested<'_>,
@@ -112,24 +112,39 @@ fn arms(
     let mut cited = String::new(alloc);
     let mut before: Vec<String> = Vec::new(alloc);
     for held in &nested.contents {
-        if !nested.is_enum || !nested.is_generic() {
-            continue;
-        }
-        let law = format!(in alloc;
-            "{}_{}_{}",
-            nested.names.snake,
-            writes.law.0,
-            law_end(alloc, held)?
-        )?;
         let call = call_of(alloc, writes, held)?;
-        let is_later = is_among(&before, call.as_str());
-        let arm = (law.as_str(), call.as_str(), is_later);
-        answers.push_str(arm_of(alloc, held, (writes, prefix), arm)?.as_str())?;
-        cited.push_str(if cited.is_empty() { "" } else { ", " })?;
-        cited.push_str(law.as_str())?;
+        if is_answered(nested, held, writes) {
+            let law = law_of(alloc, nested, held, writes)?;
+            let arm = (
+                law.as_str(),
+                call.as_str(),
+                is_among(&before, call.as_str()),
+            );
+            answers.push_str(arm_of(alloc, held, (writes, prefix), arm)?.as_str())?;
+            cited.push_str(if cited.is_empty() { "" } else { ", " })?;
+            cited.push_str(law.as_str())?;
+        }
         before.push(call)?;
     }
     Ok((answers, cited))
+}
+
+/// Whether what writes a variant has an answer: with parameters each, and else one of three parts
+/// in texts, which the search does not always find.
+fn is_answered(nested: &Nested<'_>, held: &Held<'_>, writes: Writes) -> bool {
+    let is_long = writes.word != "Bin" && !held.has_fields && held.leaves.len() > 2;
+    nested.is_enum && (nested.is_generic() || is_long)
+}
+
+/// The name of the law that says how a variant is written.
+fn law_of(
+    alloc: Global,
+    nested: &Nested<'_>,
+    held: &Held<'_>,
+    writes: Writes,
+) -> Result<String, AllocError> {
+    let (snake, law) = (nested.names.snake.as_str(), writes.law.0);
+    format!(in alloc; "{snake}_{law}_{}", law_end(alloc, held)?)
 }
 
 /// Whether a call was made before.
@@ -215,9 +230,10 @@ pub(crate) fn with_writer(
     let (writes, name) = (writes_of(format), nested.names.of.as_str());
     let (word, method) = (writes.word, writes.method);
     let of = format!(in alloc; "{name}Writes{word}")?;
-    let prefix = match &there {
-        Some(_answers) => format!(in alloc; "{of}::{method}-")?,
-        None => String::new(alloc),
+    let prefix = if there.is_some() || nested.members.are_several() {
+        format!(in alloc; "{of}::{method}-")?
+    } else {
+        String::new(alloc)
     };
     let (answers, cited) = arms(alloc, nested, writes, prefix.as_str())?;
     if answers.is_empty() {
@@ -234,12 +250,11 @@ pub(crate) fn with_writer(
         "{rules}use Rattle.{library}.proofs.{stem}{file}CodecsLaws.{{{cited}}}\n"
     )?;
     let Some(there) = there else {
-        let (folder, goals) = (place.folder.as_str(), place.goals.as_str());
+        let of = (of.as_str(), method, format);
+        let Goals { path, module, .. } = writer_goals(alloc, nested, place, of)?;
         return Ok(Some(Answers {
-            path: format!(in alloc; "{folder}/{of}/+{method}/Answers.antt")?,
-            text: format!(in alloc;
-                "{HEAD}\n{laws}use {goals}.{of}.+{method}.Goals as goal\n{answers}"
-            )?,
+            path,
+            text: format!(in alloc; "{HEAD}\n{laws}use {module} as goal\n{answers}")?,
         }));
     };
     let (head, rest) = there.text.as_str().split_once('\n').unwrap_or(("", ""));
@@ -247,4 +262,24 @@ pub(crate) fn with_writer(
         path: there.path.clone()?,
         text: format!(in alloc; "{head}\n{laws}{rest}{answers}")?,
     }))
+}
+
+/// The goals of what writes a type by this method in the format of this name: by themselves, or
+/// with those of the types that it contains and that contain it.
+fn writer_goals(
+    alloc: Global,
+    nested: &Nested<'_>,
+    place: &Place<'_>,
+    (of, method, format): (&str, &str, &str),
+) -> Result<Goals, AllocError> {
+    let Place { folder, goals, .. } = place;
+    if nested.members.are_several() {
+        let end = format!(in alloc; "_{format}")?;
+        return goals_of(alloc, nested, place, (of, method, "write", end.as_str()));
+    }
+    Ok(Goals {
+        path: format!(in alloc; "{folder}/{of}/+{method}/Answers.antt")?,
+        module: format!(in alloc; "{goals}.{of}.+{method}.Goals")?,
+        prefix: String::new(alloc),
+    })
 }

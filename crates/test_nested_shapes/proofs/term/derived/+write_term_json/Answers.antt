@@ -1,4 +1,5 @@
 -- Written by derive_files.
+use Rattle.test_nested_shapes.proofs.TermJsonCodecsLaws.{term_json_text_if, term_json_text_repeat}
 use Rattle.std.proofs.Common.{◌++◌, true, string_bytes}
 use Rattle.std.proofs.lemmas.Result.{on_ok_weaker}
 use Rattle.nano_grammar.specs.FieldCodec.{field_text}
@@ -44,3 +45,13 @@ ArgumentJsonWriter::append_named-returns-clause-ok t c =
     (string_bytes c.append_named_fields.new.s.out) (string_bytes c.st_post.new.self.out)
     c.in_ok-st_pre.ensures.ok c.in_ok-ser_json.ensures.ok c.in_ok-push_str.ensures.bytes
     c.in_ok-append_named_fields.ensures.ok) c.st_post.ensures.ok
+
+pub TermWritesJson::write_json-returns-in-If-clause-ok : goal.TermWritesJson::write_json-returns-in-If-clause-ok
+TermWritesJson::write_json-returns-in-If-clause-ok t c =
+    rw (c.in-If.is, term_json_text_if c.args.d c.in-If.first c.in-If.second c.in-If.third)
+    c.write_triple_within.ensures.ok
+
+pub TermWritesJson::write_json-returns-in-Repeat-clause-ok : goal.TermWritesJson::write_json-returns-in-Repeat-clause-ok
+TermWritesJson::write_json-returns-in-Repeat-clause-ok t c =
+    rw (c.in-Repeat.is, term_json_text_repeat c.args.d c.in-Repeat.first c.in-Repeat.second c.in-Repeat.third)
+    c.write_triple_within-in-Repeat.ensures.ok

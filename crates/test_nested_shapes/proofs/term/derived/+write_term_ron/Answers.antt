@@ -1,4 +1,5 @@
 -- Written by derive_files.
+use Rattle.test_nested_shapes.proofs.TermRonCodecsLaws.{term_ron_text_if, term_ron_text_repeat}
 use Rattle.std.proofs.Common.{◌++◌, chars, codes, string_bytes}
 use Rattle.std.proofs.lemmas.Result.{on_ok_weaker}
 use Rattle.nano_grammar.specs.FieldCodec.{field_text, fields_text}
@@ -34,3 +35,13 @@ ArgumentRonWriter::append_named-returns-clause-ok t c =
     (written_between c.args.d inner ((argument_ron_field_named_name c.args.v0.now) ++ (argument_ron_field_named_value c.args.v1.now)) named opened
     (string_bytes c.append_optional_within.new.s.out) after c.saturating_add-inner.ensures c.in_ok-st_pre.ensures.ok row last))
     c.st_post.ensures.ok
+
+pub TermWritesRon::write_ron-returns-in-If-clause-ok : goal.TermWritesRon::write_ron-returns-in-If-clause-ok
+TermWritesRon::write_ron-returns-in-If-clause-ok t c =
+    rw (c.in-If.is, term_ron_text_if c.args.d c.in-If.first c.in-If.second c.in-If.third)
+    c.write_triple_within.ensures.ok
+
+pub TermWritesRon::write_ron-returns-in-Repeat-clause-ok : goal.TermWritesRon::write_ron-returns-in-Repeat-clause-ok
+TermWritesRon::write_ron-returns-in-Repeat-clause-ok t c =
+    rw (c.in-Repeat.is, term_ron_text_repeat c.args.d c.in-Repeat.first c.in-Repeat.second c.in-Repeat.third)
+    c.write_triple_within-in-Repeat.ensures.ok
