@@ -25,7 +25,7 @@ NAMES = {"writing": "canonical", "live": "remaining", "mark": "punctuator", "tie
 ALLOWED = set(
     "Refused OnRefused ConnectionRefused push_front pop_front front_len tied_itself tied_back "
     "Format format format_args room formats Appends-kept unknown_are_kept is_sorted_front "
-    "ensures.front".split()
+    "ensures.front Kept".split()
 )
 NAME = re.compile(r"(?<![\w'])[A-Za-z_][\w']*(?:-[\w']+)*")
 PART = re.compile(r"[A-Z]+(?![a-z])|[A-Z]?[a-z]+")

@@ -12,8 +12,8 @@ use crate::parameters::{Format, first_of};
 use crate::ron_answers::ron_writer;
 use crate::text_answers::text_readers;
 use crate::text_codec::{JSON, RON, TextTerms};
+use derive_pen::Pen;
 use derive_syntax::{Attributes, codecs_name, crate_of};
-use std::alloc::{AllocError, Global};
 
 /// The answers for a function.
 #[derive(Drop)]
@@ -27,63 +27,81 @@ pub(crate) struct Answers {
 /// The answers for each function of types in a module that contain each other, or of one that
 /// contains itself, above which these formats stand. The root is the last.
 pub(crate) fn answers_of(
-    alloc: Global,
+    pen: &Pen,
     module: &str,
     members: &[Nested<'_>],
     attributes: Attributes<'_>,
-) -> Result<Vec<Answers>, AllocError> {
-    let mut files = Vec::new(alloc);
-    let place = place_of(alloc, module)?;
-    let first = first_of(attributes);
-    let file = first_codecs_name(alloc, module, attributes)?;
+) -> Vec<Answers> {
+    let mut files = Vec::new(pen.alloc());
     let Some(nested) = members.last() else {
-        return Ok(files);
+        return files;
     };
+    let place = place_of(pen, module);
     let mut own = Own {
-        alloc,
+        pen,
         nested,
         files: &mut files,
     };
-    let known = known_answers(alloc, members, &place, file.as_str())?;
-    own.append(first.name, known)?;
-    if !nested.is_enum && nested.is_generic() {
-        let known = known_struct(alloc, module, nested, (&place, file.as_str()))?;
-        own.append(first.name, Some(known))?;
-    }
+    own.append_known(module, members, (attributes, &place));
     if attributes.bin.is_used() {
-        own.append("bin", Some(read_answers(alloc, nested, &place)?))?;
-        own.append("bin", with_writer(alloc, nested, ("bin", &place), None)?)?;
+        own.append_bytes(&place);
     }
+    let first = first_of(attributes);
     if attributes.json.is_used() {
-        let writer = json_writer(alloc, members, &place)?;
-        own.append_texts(members, &JSON, (first, &place), writer)?;
+        let writer = json_writer(pen, members, &place);
+        own.append_texts(members, &JSON, (first, &place), writer);
     }
     if attributes.ron.is_used() {
-        let writer = ron_writer(alloc, members, &place)?;
-        own.append_texts(members, &RON, (first, &place), writer)?;
+        let writer = ron_writer(pen, members, &place);
+        own.append_texts(members, &RON, (first, &place), writer);
     }
-    Ok(files)
+    files
 }
 
 /// The files of the answers for a type, or for the root of several.
 #[derive(Drop)]
-struct Own<'f, 'n, 'a> {
-    /// Where memory comes from.
-    alloc: Global,
+struct Own<'p, 'f, 'n, 'a> {
+    /// What texts are written with.
+    pen: &'p Pen,
     /// The type.
     nested: &'n Nested<'a>,
     /// The files.
     files: &'f mut Vec<Answers>,
 }
 
-impl Own<'_, '_, '_> {
+impl Own<'_, '_, '_, '_> {
     /// Appends answers that speak of the format of this name, if there are any.
-    fn append(&mut self, format: &'static str, answers: Option<Answers>) -> Result<(), AllocError> {
+    fn append(&mut self, format: &'static str, answers: Option<Answers>) {
         let Some(Answers { path, text }) = answers else {
-            return Ok(());
+            return;
         };
-        let text = with_goals(self.alloc, self.nested, format, text)?;
-        Ok(self.files.push(Answers { path, text })?)
+        let text = with_goals(self.pen, self.nested, format, text);
+        self.pen.push(self.files, Answers { path, text });
+    }
+
+    /// Appends the answers for which meanings are legal, in the first format of these types.
+    fn append_known(
+        &mut self,
+        module: &str,
+        members: &[Nested<'_>],
+        (attributes, place): (Attributes<'_>, &Place<'_>),
+    ) {
+        let (pen, nested) = (self.pen, self.nested);
+        let first = first_of(attributes).name;
+        let file = first_codecs_name(pen, module, attributes);
+        let known = known_answers(pen, members, place, file.as_str());
+        self.append(first, known);
+        if !nested.is_enum && nested.is_generic() {
+            let known = known_struct(pen, module, nested, (place, file.as_str()));
+            self.append(first, Some(known));
+        }
+    }
+
+    /// Appends the answers for what reads and writes these types as bytes.
+    fn append_bytes(&mut self, place: &Place<'_>) {
+        let (pen, nested) = (self.pen, self.nested);
+        self.append("bin", Some(read_answers(pen, nested, place)));
+        self.append("bin", with_writer(pen, nested, ("bin", place), None));
     }
 
     /// Appends the answers for what reads and writes these types in a format of texts.
@@ -93,15 +111,15 @@ impl Own<'_, '_, '_> {
         format: &TextTerms,
         (first, place): (Format, &Place<'_>),
         writer: Option<Answers>,
-    ) -> Result<(), AllocError> {
-        let (alloc, nested, name) = (self.alloc, self.nested, format.name);
-        self.append(name, text_readers(alloc, members, format, place)?)?;
-        self.append(name, later_reader(alloc, nested, format, (first, place))?)?;
+    ) {
+        let (pen, nested, name) = (self.pen, self.nested, format.name);
+        self.append(name, text_readers(pen, members, format, place));
+        self.append(name, later_reader(pen, nested, format, (first, place)));
         let mut writer = writer;
         for member in members {
-            writer = with_writer(alloc, member, (name, place), writer)?;
+            writer = with_writer(pen, member, (name, place), writer);
         }
-        self.append(name, writer)
+        self.append(name, writer);
     }
 }
 
@@ -119,16 +137,16 @@ pub(crate) struct Place<'a> {
 }
 
 /// The place of the answers for the types of a module.
-fn place_of<'a>(alloc: Global, module: &'a str) -> Result<Place<'a>, AllocError> {
+fn place_of<'a>(pen: &Pen, module: &'a str) -> Place<'a> {
     let (library, path) = crate_of(module);
-    let file = codecs_name(alloc, module)?;
+    let file = pen.whole(codecs_name(pen.alloc(), module));
     let stem = file.as_str().strip_suffix("Codecs").unwrap_or("");
-    Ok(Place {
+    Place {
         library,
-        folder: folder_of(alloc, path)?,
-        goals: format!(in alloc; "Rattle.{library}.proofs{path}.derived")?,
-        stem: String::from_str(alloc, stem)?,
-    })
+        folder: folder_of(pen, path),
+        goals: pen.two("Rattle.{}.proofs{}.derived", library, path),
+        stem: pen.copy(stem),
+    }
 }
 
 /// The goals of a function.
@@ -145,72 +163,74 @@ pub(crate) struct Goals {
 /// The goals of a function of an impl, which stand by themselves. Those of types that contain each
 /// other stand with the goals of the others, by the verb and the format.
 pub(crate) fn goals_of(
-    alloc: Global,
+    pen: &Pen,
     nested: &Nested<'_>,
     place: &Place<'_>,
     (of, function, verb, format): (&str, &str, &str, &str),
-) -> Result<Goals, AllocError> {
+) -> Goals {
     let Place { folder, goals, .. } = place;
     if !nested.members.are_several() {
-        return Ok(Goals {
-            path: format!(in alloc; "{folder}/{of}/+{verb}/Answers.antt")?,
-            module: format!(in alloc; "{goals}.{of}.+{verb}.Goals")?,
-            prefix: String::new(alloc),
-        });
+        return Goals {
+            path: pen.three("{}/{}/+{}/Answers.antt", folder.as_str(), of, verb),
+            module: pen.three("{}.{}.+{}.Goals", goals.as_str(), of, verb),
+            prefix: pen.empty(),
+        };
     }
     let root = nested.root().snake.as_str();
-    Ok(Goals {
-        path: format!(in alloc; "{folder}/+{verb}_{root}{format}/Answers.antt")?,
-        module: format!(in alloc; "{goals}.+{verb}_{root}{format}.Goals")?,
-        prefix: format!(in alloc; "{of}::{function}-")?,
-    })
+    Goals {
+        path: pen.four(
+            "{}/+{}_{}{}/Answers.antt",
+            folder.as_str(),
+            verb,
+            root,
+            format,
+        ),
+        module: pen.four("{}.+{}_{}{}.Goals", goals.as_str(), verb, root, format),
+        prefix: pen.two("{}::{}-", of, function),
+    }
 }
 
 /// The folder of the proofs of the impls of a module with this path in its crate.
-pub(crate) fn folder_of(alloc: Global, path: &str) -> Result<String, AllocError> {
-    let mut folder = String::new(alloc);
+pub(crate) fn folder_of(pen: &Pen, path: &str) -> String {
+    let mut folder = pen.empty();
     for part in path.split('.') {
         if !part.is_empty() {
-            folder.push_str(part)?;
-            folder.push('/')?;
+            pen.add(&mut folder, part);
+            pen.add(&mut folder, "/");
         }
     }
-    folder.push_str("derived")?;
-    Ok(folder)
+    pen.add(&mut folder, "derived");
+    folder
 }
 
 /// The first line of each file.
 pub(crate) const HEAD: &str = "-- Written by derive_files.";
 
 /// The answers for the reader of bytes of a type.
-fn read_answers(
-    alloc: Global,
-    nested: &Nested<'_>,
-    place: &Place<'_>,
-) -> Result<Answers, AllocError> {
+fn read_answers(pen: &Pen, nested: &Nested<'_>, place: &Place<'_>) -> Answers {
     let read = if nested.is_enum {
         "read_choice_within"
     } else {
         "read_record_within"
     };
-    let of = format!(in alloc; "LevelsReadsBin{}", nested.names.of)?;
+    let of = pen.one("LevelsReadsBin{}", nested.names.of.as_str());
     let of = (of.as_str(), "read_bin", "read", "_bin");
     let Goals {
         path,
         module,
         prefix,
-    } = goals_of(alloc, nested, place, of)?;
-    let mut holes = nested.holes(alloc);
+    } = goals_of(pen, nested, place, of);
+    let mut holes = nested.holes(pen);
     holes.put("HEAD", HEAD);
     holes.put("LIBRARY", place.library);
     holes.put("STEM", place.stem.as_str());
     holes.put("GOALS", module.as_str());
     holes.put("OWN", prefix.as_str());
     holes.put("READ", read);
-    Ok(Answers {
+    Answers {
         path,
-        text: holes.fill(READ_TEXT)?,
-    })
+        text: pen.whole(holes.fill(READ_TEXT)),
+    }
 }
 
 const READ_TEXT: &str = "\

@@ -5,62 +5,61 @@ use crate::held::Held;
 use crate::nested::Nested;
 use crate::row::Leaf;
 use crate::wrapped::{at, atom};
-use std::alloc::{AllocError, Global};
+use derive_pen::Pen;
 
 /// What a value means.
-pub(crate) fn around_means(alloc: Global, nested: &Nested<'_>) -> Result<String, AllocError> {
+pub(crate) fn around_means(pen: &Pen, nested: &Nested<'_>) -> String {
     if nested.is_enum {
-        return choice_means(alloc, nested);
+        return choice_means(pen, nested);
     }
-    let mut said = String::new(alloc);
+    let mut said = pen.empty();
     for held in &nested.contents {
-        said.push_str(held.row.part.means.as_str())?;
+        pen.add(&mut said, held.row.part.means.as_str());
     }
-    let mut holes = nested.all_holes(alloc)?;
+    let mut holes = nested.all_holes(pen);
     holes.put("SAID", said.as_str());
-    holes.fill(RECORD)
+    pen.whole(holes.fill(RECORD))
 }
 
 const RECORD: &str = "(λ (y : $NAME-F $TYPES). $SAID) (out-$NAME x)";
 
 /// What a value of an enum means: what its content does, with the place of its variant.
-fn choice_means(alloc: Global, nested: &Nested<'_>) -> Result<String, AllocError> {
-    let mut means: Option<String> = None;
+fn choice_means(pen: &Pen, nested: &Nested<'_>) -> String {
+    let mut means = pen.copy("nothing");
     for (i, held) in nested.contents.iter().enumerate().rev() {
-        let own = variant_means(alloc, nested, (held, i))?;
-        means = Some(match means {
-            Some(later) => format!(in alloc; "(either_is {own}\n    {later})")?,
-            None => own,
-        });
+        let own = variant_means(pen, nested, (held, i));
+        means = if i.saturating_add(1) == nested.contents.len() {
+            own
+        } else {
+            pen.two("(either_is {}\n    {})", own.as_str(), means.as_str())
+        };
     }
-    let means = means.unwrap_or(String::from_str(alloc, "nothing")?);
-    format!(in alloc; "{means} ({}_view x)", nested.names.snake)
+    let snake = nested.names.snake.as_str();
+    pen.two("{} ({}_view x)", means.as_str(), snake)
 }
 
 /// What the content of a variant at its place means, as a function of it.
-fn variant_means(
-    alloc: Global,
-    nested: &Nested<'_>,
-    (held, i): (&Held<'_>, usize),
-) -> Result<String, AllocError> {
-    let of = at(alloc, held.row.part.of.as_str(), nested.root().of.as_str())?;
-    let said = row_means(alloc, &held.leaves, "v")?;
-    format!(in alloc;
-        "(λ (v : {of}). tagged {i} {})",
-        atom(alloc, said.as_str())?
+fn variant_means(pen: &Pen, nested: &Nested<'_>, (held, i): (&Held<'_>, usize)) -> String {
+    let of = at(pen, held.row.part.of.as_str(), nested.root().of.as_str());
+    let said = row_means(pen, &held.leaves, "v");
+    pen.three(
+        "(λ (v : {}). tagged {} {})",
+        of.as_str(),
+        pen.number(i).as_str(),
+        atom(pen, said.as_str()).as_str(),
     )
 }
 
 /// What nested pairs of parts mean, of which this is the value.
-fn row_means(alloc: Global, leaves: &[Leaf<'_>], value: &str) -> Result<String, AllocError> {
+fn row_means(pen: &Pen, leaves: &[Leaf<'_>], value: &str) -> String {
     if let [leaf] = leaves {
-        return at(alloc, leaf.part.means.as_str(), value);
+        return at(pen, leaf.part.means.as_str(), value);
     }
     let (first, second) = leaves.split_at(leaves.len() / 2);
     if leaves.is_empty() {
-        return String::from_str(alloc, "nothing");
+        return pen.copy("nothing");
     }
-    let first = row_means(alloc, first, format!(in alloc; "{value}.0")?.as_str())?;
-    let second = row_means(alloc, second, format!(in alloc; "{value}.1")?.as_str())?;
-    format!(in alloc; "paired ({first}, {second})")
+    let first = row_means(pen, first, pen.one("{}.0", value).as_str());
+    let second = row_means(pen, second, pen.one("{}.1", value).as_str());
+    pen.two("paired ({}, {})", first.as_str(), second.as_str())
 }

@@ -7,37 +7,37 @@ use crate::nested::Nested;
 use crate::parameters::coded_by;
 use crate::row::layer_of;
 use crate::wrapped::atom;
-use std::alloc::{AllocError, Global};
+use derive_pen::Pen;
 
 /// Bytes: their names are those of the type alone.
 const BYTES: Coded = Coded { infix: "", of: "" };
 
 /// The definitions for bytes of types that contain each other, or of one that contains itself.
-pub(crate) fn bin_codecs(alloc: Global, members: &[Nested<'_>]) -> Result<String, AllocError> {
-    let mut text = String::new(alloc);
+pub(crate) fn bin_codecs(pen: &Pen, members: &[Nested<'_>]) -> String {
+    let mut text = pen.empty();
     for nested in members {
-        text.push_str(layer(alloc, nested)?.as_str())?;
-        text.push_str(nested_record(alloc, nested, BYTES)?.as_str())?;
+        pen.add(&mut text, layer(pen, nested).as_str());
+        pen.add(&mut text, nested_record(pen, nested, BYTES).as_str());
     }
-    for nested in root_first(alloc, members)? {
-        text.push_str(codec(alloc, nested)?.as_str())?;
-        text.push_str(read(alloc, nested)?.as_str())?;
+    for nested in root_first(pen, members) {
+        pen.add(&mut text, codec(pen, nested).as_str());
+        pen.add(&mut text, read(pen, nested).as_str());
     }
-    Ok(text)
+    text
 }
 
 /// The layer around values of the type itself.
-fn layer(alloc: Global, nested: &Nested<'_>) -> Result<String, AllocError> {
-    let layer = layers(alloc, nested)?;
-    let mut holes = nested.all_holes(alloc)?;
+fn layer(pen: &Pen, nested: &Nested<'_>) -> String {
+    let layer = layers(pen, nested);
+    let mut holes = nested.all_holes(pen);
     if nested.is_enum {
         holes.put("LAYER", layer.as_str());
-        return holes.fill(VARIANTS);
+        return pen.whole(holes.fill(VARIANTS));
     }
-    let head = format!(in alloc; "{}_layer", nested.names.snake)?;
-    let line = equation(alloc, head.as_str(), layer.as_str())?;
+    let head = pen.one("{}_layer", nested.names.snake.as_str());
+    let line = equation(pen, head.as_str(), layer.as_str());
     holes.put("LAYER", line.as_str());
-    holes.fill(FIELDS)
+    pen.whole(holes.fill(FIELDS))
 }
 
 const VARIANTS: &str = "
@@ -58,43 +58,43 @@ abbrev pub $SNAKE_layer : Layer $ROOT ($NAMEContent $ROOT)
 $LAYER";
 
 /// The layer of a struct, or those of the variants.
-fn layers(alloc: Global, nested: &Nested<'_>) -> Result<String, AllocError> {
+fn layers(pen: &Pen, nested: &Nested<'_>) -> String {
     let mut text: Option<String> = None;
     for held in nested.contents.iter().rev() {
-        let layer = layer_of(alloc, &held.row.part)?;
-        let first = atom(alloc, layer.as_str())?;
+        let layer = layer_of(pen, &held.row.part);
+        let first = atom(pen, layer.as_str());
         text = match text {
             _ if !nested.is_enum => Some(layer),
-            None => Some(format!(in alloc; "last_variant {first}")?),
-            Some(rest) => Some(format!(in alloc; "next_variant {first}\n    ({rest})")?),
+            None => Some(pen.one("last_variant {}", first.as_str())),
+            Some(rest) => Some(pen.two("next_variant {}\n    ({})", first.as_str(), rest.as_str())),
         };
     }
     match text {
-        Some(text) => Ok(text),
-        None => String::from_str(alloc, "itself_layer"),
+        Some(text) => text,
+        None => pen.copy("itself_layer"),
     }
 }
 
 /// The codec.
-fn codec(alloc: Global, nested: &Nested<'_>) -> Result<String, AllocError> {
+fn codec(pen: &Pen, nested: &Nested<'_>) -> String {
     let codec = if nested.is_around() { AROUND } else { CODEC };
-    nested.all_holes(alloc)?.fill(codec)
+    pen.whole(nested.all_holes(pen).fill(codec))
 }
 
 /// That a type with parameters is read, if these are.
-fn read(alloc: Global, nested: &Nested<'_>) -> Result<String, AllocError> {
+fn read(pen: &Pen, nested: &Nested<'_>) -> String {
     if !nested.is_generic() {
-        return Ok(String::new(alloc));
+        return pen.empty();
     }
     let bin = coded_by("bin");
-    let premises = nested.of_each(alloc, "$SNAKE_bin.is_decodable ≡ true → ", bin, "")?;
-    let names = nested.of_each(alloc, "$SNAKE_read", bin, " ")?;
-    let each = nested.of_each(alloc, "$SNAKE_read", bin, ", ")?;
-    let mut holes = nested.holes(alloc);
+    let premises = nested.of_each(pen, "$SNAKE_bin.is_decodable ≡ true → ", bin, "");
+    let names = nested.of_each(pen, "$SNAKE_read", bin, " ");
+    let each = nested.of_each(pen, "$SNAKE_read", bin, ", ");
+    let mut holes = nested.holes(pen);
     holes.put("PREMISES", premises.as_str());
     holes.put("GIVEN", names.as_str());
     holes.put("EACH", each.as_str());
-    holes.fill(READ)
+    pen.whole(holes.fill(READ))
 }
 
 const READ: &str = "

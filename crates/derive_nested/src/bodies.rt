@@ -10,8 +10,8 @@ use crate::nested::{Nested, counted_in, nested_of};
 use crate::others::{BIN, Other, add_others_of, append_cited, append_codecs_of, append_others};
 use crate::text_codec::{TextTerms, text_codecs};
 use crate::text_laws::text_laws;
+use derive_pen::Pen;
 use derive_syntax::{Attributes, Cycle, Fault, Source};
-use std::alloc::{AllocError, Global};
 
 /// What a file of ghost terms says.
 #[derive(Drop)]
@@ -24,17 +24,17 @@ pub(crate) struct Body {
 
 impl Body {
     /// Nothing.
-    pub(crate) fn new(alloc: Global) -> Body {
+    pub(crate) fn new(pen: &Pen) -> Body {
         Body {
-            brought: String::new(alloc),
-            text: String::new(alloc),
+            brought: pen.empty(),
+            text: pen.empty(),
         }
     }
 
     /// Says something, for which these lines bring names in.
-    fn say(&mut self, text: String, brought: String) -> Result<(), AllocError> {
-        self.text.push_str(text.as_str())?;
-        self.brought.push_str(brought.as_str())
+    fn say(&mut self, pen: &Pen, text: &str, brought: &str) {
+        pen.add(&mut self.text, text);
+        pen.add(&mut self.brought, brought);
     }
 }
 
@@ -51,17 +51,20 @@ pub(crate) struct File<'a> {
 /// them: each after those that it contains but the root, which is the last. The fields of a struct
 /// are those of `y`, or of what it is seen as.
 pub(crate) fn nested_members<'a>(
-    alloc: Global,
+    pen: &Pen,
     source: &Source<'a>,
     cycle: &Cycle<'a>,
     is_seen: bool,
 ) -> Result<Vec<Nested<'a>>, Fault> {
-    let mut members = Vec::new(alloc);
+    let mut members = Vec::new(pen.alloc());
     for name in &cycle.inward {
-        let value = value_of(alloc, name.text, is_seen)?;
+        let value = value_of(pen, name.text, is_seen);
         for definition in &source.definitions {
             if definition.name.text == name.text {
-                members.push(nested_of(alloc, (source, definition), value.as_str())?)?;
+                pen.push(
+                    &mut members,
+                    nested_of(pen, (source, definition), value.as_str())?,
+                );
             }
         }
     }
@@ -69,31 +72,31 @@ pub(crate) fn nested_members<'a>(
 }
 
 /// What the fields of a struct of this name are fields of.
-fn value_of(alloc: Global, name: &str, is_seen: bool) -> Result<String, AllocError> {
+fn value_of(pen: &Pen, name: &str, is_seen: bool) -> String {
     if is_seen {
-        format!(in alloc; "(out-{name} x)")
+        pen.one("(out-{} x)", name)
     } else {
-        String::from_str(alloc, "y")
+        pen.copy("y")
     }
 }
 
 /// The other types within some types of a module, each once.
 fn others_of<'a>(
-    alloc: Global,
+    pen: &Pen,
     module: &str,
     source: &Source<'a>,
     members: &[Nested<'a>],
-) -> Result<Vec<Other>, AllocError> {
-    let mut others = Vec::new(alloc);
+) -> Vec<Other> {
+    let mut others = Vec::new(pen.alloc());
     for nested in members {
-        add_others_of(alloc, module, source, nested, &mut others)?;
+        add_others_of(pen, module, source, nested, &mut others);
     }
-    Ok(others)
+    others
 }
 
 /// Appends the definitions of types that no format changes, and those of bytes if they have them.
 pub(crate) fn append_definitions<'a>(
-    alloc: Global,
+    pen: &Pen,
     file: File<'_>,
     (source, cycle): (&Source<'a>, &Cycle<'a>),
     specs: &mut Body,
@@ -101,27 +104,40 @@ pub(crate) fn append_definitions<'a>(
     let Some(attributes) = counted_in(source, cycle) else {
         return Ok(());
     };
-    let members = nested_members(alloc, source, cycle, false)?;
-    let others = others_of(alloc, file.module, source, &members)?;
-    let mut text = definitions(alloc, &members, has_several(attributes))?;
+    let members = nested_members(pen, source, cycle, false)?;
+    let others = others_of(pen, file.module, source, &members);
+    say_definitions(pen, file, (&members, &others), attributes, specs);
+    Ok(())
+}
+
+/// Appends these definitions, of types with others in them.
+fn say_definitions(
+    pen: &Pen,
+    file: File<'_>,
+    (members, others): (&[Nested<'_>], &[Other]),
+    attributes: Attributes<'_>,
+    specs: &mut Body,
+) {
+    let mut text = definitions(pen, members, has_several(attributes));
     if attributes.bin.is_used() {
-        append_codecs_of(alloc, file.module, &others, &BIN, specs)?;
-        text.push_str(bin_codecs(alloc, &members)?.as_str())?;
+        append_codecs_of(pen, file.module, others, &BIN, specs);
+        pen.add(&mut text, bin_codecs(pen, members).as_str());
     }
-    if let [nested] = members.as_slice() {
-        text = with_parameters(alloc, nested, "bin", text)?;
+    if let [nested] = members {
+        text = with_parameters(pen, nested, "bin", text);
     }
-    let mut brought = String::new(alloc);
-    for nested in &members {
-        brought.push_str(declared_lines(alloc, file.module, nested)?.as_str())?;
+    let mut brought = pen.empty();
+    for nested in members {
+        let lines = declared_lines(pen, file.module, nested);
+        pen.add(&mut brought, lines.as_str());
     }
-    specs.say(text, brought)?;
-    Ok(append_others(alloc, file.module, &others, specs)?)
+    specs.say(pen, text.as_str(), brought.as_str());
+    append_others(pen, file.module, others, specs);
 }
 
 /// Appends the laws of types that no format changes, and those of bytes if they have them.
 pub(crate) fn append_laws<'a>(
-    alloc: Global,
+    pen: &Pen,
     file: File<'_>,
     (source, cycle): (&Source<'a>, &Cycle<'a>),
     proofs: &mut Body,
@@ -129,21 +145,23 @@ pub(crate) fn append_laws<'a>(
     let Some(attributes) = counted_in(source, cycle) else {
         return Ok(());
     };
-    let members = nested_members(alloc, source, cycle, true)?;
-    let others = others_of(alloc, file.module, source, &members)?;
+    let members = nested_members(pen, source, cycle, true)?;
+    let others = others_of(pen, file.module, source, &members);
     let has_bin = attributes.bin.is_used();
     for nested in &members {
-        let text = codec_laws(alloc, nested, has_bin)?;
-        let text = with_parameters(alloc, nested, "bin", text)?;
-        proofs.say(text, cited_lines(alloc, file.module, nested, has_bin)?)?;
+        let text = codec_laws(pen, nested, has_bin);
+        let text = with_parameters(pen, nested, "bin", text);
+        let brought = cited_lines(pen, file.module, nested, has_bin);
+        proofs.say(pen, text.as_str(), brought.as_str());
     }
-    append_others(alloc, file.module, &others, proofs)?;
-    Ok(append_cited(alloc, file, &others, proofs)?)
+    append_others(pen, file.module, &others, proofs);
+    append_cited(pen, file, &others, proofs);
+    Ok(())
 }
 
 /// Appends the definitions of types in a format of texts, if they have it.
 pub(crate) fn append_text_definitions<'a>(
-    alloc: Global,
+    pen: &Pen,
     file: File<'_>,
     (source, cycle, format): (&Source<'a>, &Cycle<'a>, &TextTerms),
     specs: &mut Body,
@@ -152,19 +170,32 @@ pub(crate) fn append_text_definitions<'a>(
         return Ok(());
     };
     let before = before(attributes, format);
-    let members = nested_members(alloc, source, cycle, false)?;
-    let others = others_of(alloc, file.module, source, &members)?;
-    append_codecs_of(alloc, file.module, &others, &format.said, specs)?;
-    let mut text = text_codecs(alloc, &members, format, before)?;
-    if let [nested] = members.as_slice() {
-        text = with_parameters(alloc, nested, format.name, text)?;
+    let members = nested_members(pen, source, cycle, false)?;
+    let others = others_of(pen, file.module, source, &members);
+    say_texts(pen, file, (&members, &others), (format, before), specs);
+    Ok(())
+}
+
+/// Appends these definitions, of types with others in them, after the format before.
+fn say_texts(
+    pen: &Pen,
+    file: File<'_>,
+    (members, others): (&[Nested<'_>], &[Other]),
+    (format, before): (&TextTerms, Option<&str>),
+    specs: &mut Body,
+) {
+    append_codecs_of(pen, file.module, others, &format.said, specs);
+    let mut text = text_codecs(pen, members, format, before);
+    if let [nested] = members {
+        text = with_parameters(pen, nested, format.name, text);
     }
-    let mut brought = String::new(alloc);
-    for nested in &members {
-        brought.push_str(text_lines(alloc, file.module, nested, before)?.as_str())?;
+    let mut brought = pen.empty();
+    for nested in members {
+        let lines = text_lines(pen, file.module, nested, before);
+        pen.add(&mut brought, lines.as_str());
     }
-    specs.say(text, brought)?;
-    Ok(append_others(alloc, file.module, &others, specs)?)
+    specs.say(pen, text.as_str(), brought.as_str());
+    append_others(pen, file.module, others, specs);
 }
 
 /// What stands above the root of a cycle, if its types have a format of texts.
@@ -181,7 +212,7 @@ fn text_attributes<'a>(
 
 /// Appends the laws of types in a format of texts, if they have it.
 pub(crate) fn append_text_laws<'a>(
-    alloc: Global,
+    pen: &Pen,
     file: File<'_>,
     (source, cycle, format): (&Source<'a>, &Cycle<'a>, &TextTerms),
     proofs: &mut Body,
@@ -190,14 +221,15 @@ pub(crate) fn append_text_laws<'a>(
         return Ok(());
     };
     let is_first = before(attributes, format).is_none();
-    let members = nested_members(alloc, source, cycle, true)?;
-    let others = others_of(alloc, file.module, source, &members)?;
+    let members = nested_members(pen, source, cycle, true)?;
+    let others = others_of(pen, file.module, source, &members);
     for nested in &members {
-        let text = text_laws(alloc, nested, format, is_first)?;
-        let text = with_parameters(alloc, nested, format.name, text)?;
-        let brought = text_cited(alloc, file.module, nested, format, is_first)?;
-        proofs.say(text, brought)?;
+        let text = text_laws(pen, nested, format, is_first);
+        let text = with_parameters(pen, nested, format.name, text);
+        let brought = text_cited(pen, file.module, nested, format, is_first);
+        proofs.say(pen, text.as_str(), brought.as_str());
     }
-    append_others(alloc, file.module, &others, proofs)?;
-    Ok(append_cited(alloc, file, &others, proofs)?)
+    append_others(pen, file.module, &others, proofs);
+    append_cited(pen, file, &others, proofs);
+    Ok(())
 }

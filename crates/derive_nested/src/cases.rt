@@ -6,7 +6,8 @@ use crate::held::Held;
 use crate::nested::Nested;
 use crate::row::Leaf;
 use crate::wrapped::{atom, held_proof};
-use std::alloc::{AllocError, Global};
+use derive_pen::Pen;
+use derive_syntax::Holes;
 
 /// What is proved of a value in a format, with whose infix the names of its definitions are made.
 #[derive(Clone, Copy)]
@@ -38,108 +39,138 @@ struct Chosen {
 }
 
 /// The proof for a variant or for the struct.
-pub(crate) fn proof(
-    alloc: Global,
-    nested: &Nested<'_>,
-    held: &Held<'_>,
-    claim: Claim<'_>,
-) -> Result<String, AllocError> {
-    cased(alloc, (nested, held), claim, &[], &held.leaves)
+pub(crate) fn proof(pen: &Pen, nested: &Nested<'_>, held: &Held<'_>, claim: Claim<'_>) -> String {
+    cased(pen, (nested, held), claim, &[], &held.leaves)
 }
 
 /// The proof where the first parts are chosen, for all cases of the rest.
 fn cased(
-    alloc: Global,
+    pen: &Pen,
     of: (&Nested<'_>, &Held<'_>),
     claim: Claim<'_>,
     chosen: &[Chosen],
     rest: &[Leaf<'_>],
-) -> Result<String, AllocError> {
+) -> String {
     let Some((leaf, later)) = rest.split_first() else {
-        return row_proof(alloc, of, claim, chosen);
+        return row_proof(pen, of, claim, chosen);
     };
     if !leaf.part.is_cased {
-        let proof = leaf_proof(alloc, leaf, claim, leaf.value.as_str())?;
-        let more = with(alloc, chosen, leaf, leaf.value.as_str(), proof)?;
-        return cased(alloc, of, claim, &more, later);
+        let proof = leaf_proof(pen, leaf, claim, leaf.value.as_str());
+        let more = with(pen, chosen, leaf, leaf.value.as_str(), proof);
+        return cased(pen, of, claim, &more, later);
     }
-    let some = format!(in alloc; "x{}", chosen.len())?;
-    let value = format!(in alloc; "(Some {some})")?;
-    let more = with(alloc, chosen, leaf, "None", None)?;
-    let without = cased(alloc, of, claim, &more, later)?;
-    let proof = leaf_proof(alloc, leaf, claim, some.as_str())?;
-    let more = with(alloc, chosen, leaf, value.as_str(), proof)?;
-    let within = cased(alloc, of, claim, &more, later)?;
-    let motive = with(alloc, chosen, leaf, "o", None)?;
-    let stated = statement(alloc, of, claim, (&motive, later))?;
-    format!(in alloc;
-        "by_option (λ o. {stated})\n    {} (λ {some}. {within})\n    {}",
-        atom(alloc, without.as_str())?,
-        leaf.value
+    let more = with(pen, chosen, leaf, "None", None);
+    let without = cased(pen, of, claim, &more, later);
+    let some = pen.one("x{}", pen.number(chosen.len()).as_str());
+    let more = with_some(pen, chosen, leaf, claim, some.as_str());
+    let within = cased(pen, of, claim, &more, later);
+    let motive = with(pen, chosen, leaf, "o", None);
+    let stated = statement(pen, of, claim, (&motive, later));
+    let cases = (without.as_str(), within.as_str());
+    by_option(pen, leaf, stated.as_str(), some.as_str(), cases)
+}
+
+/// The chosen parts, and an option that has this.
+fn with_some(
+    pen: &Pen,
+    chosen: &[Chosen],
+    leaf: &Leaf<'_>,
+    claim: Claim<'_>,
+    some: &str,
+) -> Vec<Chosen> {
+    let proof = leaf_proof(pen, leaf, claim, some);
+    with(
+        pen,
+        chosen,
+        leaf,
+        pen.one("(Some {})", some).as_str(),
+        proof,
     )
 }
 
-/// The proof of a part of this value.
-fn leaf_proof(
-    alloc: Global,
+/// The proof of what is stated of an option, where it has nothing and where it has this.
+fn by_option(
+    pen: &Pen,
     leaf: &Leaf<'_>,
-    claim: Claim<'_>,
-    value: &str,
-) -> Result<Option<String>, AllocError> {
+    stated: &str,
+    some: &str,
+    (without, within): (&str, &str),
+) -> String {
+    let mut holes = Holes::new(pen.alloc());
+    holes.put("STATED", stated);
+    holes.put("WITHOUT", atom(pen, without).as_str());
+    holes.put("SOME", some);
+    holes.put("WITHIN", within);
+    holes.put("OPTION", leaf.value.as_str());
+    pen.whole(holes.fill(BY_OPTION))
+}
+
+const BY_OPTION: &str = "by_option (λ o. $STATED)
+    $WITHOUT (λ $SOME. $WITHIN)
+    $OPTION";
+
+/// The proof of a part of this value.
+fn leaf_proof(pen: &Pen, leaf: &Leaf<'_>, claim: Claim<'_>, value: &str) -> Option<String> {
     match claim.said {
-        Said::Means(_place) => held_proof(alloc, &leaf.part.means_same, value),
-        Said::Depth => held_proof(alloc, &leaf.part.depth_same, value),
+        Said::Means(_place) => held_proof(pen, &leaf.part.means_same, value),
+        Said::Depth => held_proof(pen, &leaf.part.depth_same, value),
     }
 }
 
 /// The chosen parts, and one more.
 fn with(
-    alloc: Global,
+    pen: &Pen,
     chosen: &[Chosen],
     leaf: &Leaf<'_>,
     value: &str,
     proof: Option<String>,
-) -> Result<Vec<Chosen>, AllocError> {
-    let mut all = Vec::new(alloc);
+) -> Vec<Chosen> {
+    let mut all = Vec::new(pen.alloc());
     for part in chosen {
-        all.push(Chosen {
-            value: part.value.clone()?,
-            proof: held_proof(alloc, &part.proof, "$")?,
-            is_within: part.is_within,
-        })?;
+        pen.push(
+            &mut all,
+            Chosen {
+                value: pen.copy(part.value.as_str()),
+                proof: held_proof(pen, &part.proof, "$"),
+                is_within: part.is_within,
+            },
+        );
     }
-    let value = String::from_str(alloc, value)?;
+    let value = pen.copy(value);
     let is_within = leaf.part.layer.is_some();
-    all.push(Chosen {
-        value,
-        proof,
-        is_within,
-    })?;
-    Ok(all)
+    pen.push(
+        &mut all,
+        Chosen {
+            value,
+            proof,
+            is_within,
+        },
+    );
+    all
 }
 
 /// What is proved of a value with these parts.
 fn statement(
-    alloc: Global,
+    pen: &Pen,
     (nested, held): (&Nested<'_>, &Held<'_>),
     claim: Claim<'_>,
     (chosen, later): (&[Chosen], &[Leaf<'_>]),
-) -> Result<String, AllocError> {
-    let mut values = Vec::new(alloc);
+) -> String {
+    let mut values = Vec::new(pen.alloc());
     for part in chosen {
-        values.push(part.value.clone()?)?;
+        pen.push(&mut values, pen.copy(part.value.as_str()));
     }
     for leaf in later {
-        values.push(leaf.value.clone()?)?;
+        pen.push(&mut values, pen.copy(leaf.value.as_str()));
     }
-    let value = value_of(alloc, nested, held, &values)?;
-    let mut holes = nested.all_holes(alloc)?;
+    let value = value_of(pen, nested, held, &values);
+    let mut holes = nested.all_holes(pen);
     holes.put("INFIX", claim.infix);
     holes.put("VALUE", value.as_str());
-    holes.fill(match claim.said {
+    pen.whole(holes.fill(match claim.said {
         Said::Means(_place) => MEANS,
         Said::Depth => DEPTH,
-    })
+    }))
 }
 
 const MEANS: &str = "$SNAKE_means_step (map-$NAME $TYPES $AS_MEANINGS $EACH_MEANS $VALUE)
@@ -149,46 +180,47 @@ const DEPTH: &str = "$SNAKE_depth_step (map-$NAME $TYPES $AS_DEPTHS $EACH_DEPTH 
     ≡ $SNAKE_$INFIXlayer.deep $BASE_depth ($SNAKE_opened {X = $ROOT} $VALUE)";
 
 /// A value with these parts.
-fn value_of(
-    alloc: Global,
-    nested: &Nested<'_>,
-    held: &Held<'_>,
-    values: &[String],
-) -> Result<String, AllocError> {
-    let mut text = String::new(alloc);
+fn value_of(pen: &Pen, nested: &Nested<'_>, held: &Held<'_>, values: &[String]) -> String {
+    let mut text = pen.empty();
     for (name, value) in held.called.iter().zip(values.iter()) {
         let part = if nested.is_enum {
-            format!(in alloc; " {value}")?
+            pen.one(" {}", value.as_str())
         } else {
             let between = if text.is_empty() { "" } else { ";" };
-            format!(in alloc; "{between} {name} = {value}")?
+            pen.three("{} {} = {}", between, name.as_str(), value.as_str())
         };
-        text.push_str(part.as_str())?;
+        pen.add(&mut text, part.as_str());
     }
     if nested.is_enum {
-        format!(in alloc; "({}-F.{}{text})", nested.names.of, held.constructor)
+        pen.three(
+            "({}-F.{}{})",
+            nested.names.of.as_str(),
+            held.constructor.as_str(),
+            text.as_str(),
+        )
     } else {
-        format!(in alloc; "(record {{{text} }})")
+        pen.one("(record {{} })", text.as_str())
     }
 }
 
 /// The proof for parts in one case.
 fn row_proof(
-    alloc: Global,
+    pen: &Pen,
     (nested, _held): (&Nested<'_>, &Held<'_>),
     claim: Claim<'_>,
     chosen: &[Chosen],
-) -> Result<String, AllocError> {
+) -> String {
     let later = later_lemma(claim.infix);
-    match (pairs_proof(alloc, claim.said, later, chosen)?, claim.said) {
-        (None, _) => String::from_str(alloc, "refl"),
+    match (pairs_proof(pen, claim.said, later, chosen), claim.said) {
+        (None, _) => pen.copy("refl"),
         (Some(proof), Said::Means(place)) if nested.is_enum => {
-            format!(in alloc;
-                "ap (λ m. tagged {place} m) {}",
-                atom(alloc, proof.as_str())?
+            pen.two(
+                "ap (λ m. tagged {} m) {}",
+                pen.number(place).as_str(),
+                atom(pen, proof.as_str()).as_str(),
             )
         }
-        (Some(proof), _) => Ok(proof),
+        (Some(proof), _) => proof,
     }
 }
 
@@ -200,32 +232,27 @@ fn later_lemma(infix: &str) -> &'static str {
 
 /// The proof for nested pairs of parts, if it takes one. Given is the lemma for those that hold no
 /// values of the type itself before others, or nothing.
-fn pairs_proof(
-    alloc: Global,
-    said: Said,
-    later: &str,
-    chosen: &[Chosen],
-) -> Result<Option<String>, AllocError> {
+fn pairs_proof(pen: &Pen, said: Said, later: &str, chosen: &[Chosen]) -> Option<String> {
     if let [part] = chosen {
-        return held_proof(alloc, &part.proof, "$");
+        return held_proof(pen, &part.proof, "$");
     }
     let (first, second) = chosen.split_at(chosen.len() / 2);
     if chosen.is_empty() {
-        return Ok(None);
+        return None;
     }
-    let other = pairs_proof(alloc, said, later, second)?;
+    let other = pairs_proof(pen, said, later, second);
     let lemma = match said {
         Said::Means(_place) => "pair_means",
         Said::Depth if are_within(first) => "pair_depth",
-        Said::Depth if later.is_empty() || !are_there(second) => return Ok(other),
-        Said::Depth => return Ok(Some(format!(in alloc; "{later} {}", argument(alloc, &other)?)?)),
+        Said::Depth if later.is_empty() || !are_there(second) => return other,
+        Said::Depth => return Some(pen.two("{} {}", later, argument(pen, &other).as_str())),
     };
-    let one = pairs_proof(alloc, said, later, first)?;
+    let one = pairs_proof(pen, said, later, first);
     if one.is_none() && other.is_none() {
-        return Ok(None);
+        return None;
     }
-    let (one, other) = (argument(alloc, &one)?, argument(alloc, &other)?);
-    Ok(Some(format!(in alloc; "{lemma} {one} {other}")?))
+    let (one, other) = (argument(pen, &one), argument(pen, &other));
+    Some(pen.three("{} {} {}", lemma, one.as_str(), other.as_str()))
 }
 
 /// Whether one of these parts holds values of the type itself.
@@ -249,9 +276,9 @@ fn are_there(chosen: &[Chosen]) -> bool {
 }
 
 /// A proof as an argument.
-fn argument(alloc: Global, proof: &Option<String>) -> Result<String, AllocError> {
+fn argument(pen: &Pen, proof: &Option<String>) -> String {
     match proof {
-        Some(proof) => atom(alloc, proof.as_str()),
-        None => String::from_str(alloc, "refl"),
+        Some(proof) => atom(pen, proof.as_str()),
+        None => pen.copy("refl"),
     }
 }

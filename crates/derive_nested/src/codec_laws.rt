@@ -1,84 +1,89 @@
 //! What is proved of a type that contains itself: what each variant is seen as, and of bytes how a
 //! value is written, and when it is legal.
 
+use crate::cycle::snake_of;
 use crate::held::Held;
 use crate::legal_laws::{Known, struct_legal, variant_legal};
 use crate::nested::Nested;
 use crate::wrapped::{at, atom};
-use derive_syntax::Case;
-use std::alloc::{AllocError, Global};
+use derive_pen::Pen;
 
 /// The laws of a type, which has bytes or not. The fields of a struct are those of `(out-NAME x)`.
-pub(crate) fn codec_laws(
-    alloc: Global,
-    nested: &Nested<'_>,
-    has_bin: bool,
-) -> Result<String, AllocError> {
-    let mut text = format!(in alloc; "\n-- ==== {}\n", nested.names.of)?;
+pub(crate) fn codec_laws(pen: &Pen, nested: &Nested<'_>, has_bin: bool) -> String {
+    let mut text = pen.one("\n-- ==== {}\n", nested.names.of.as_str());
     for (i, held) in nested.contents.iter().enumerate() {
         if nested.is_enum {
-            text.push_str(view_law(alloc, nested, held, i)?.as_str())?;
+            pen.add(&mut text, view_law(pen, nested, held, i).as_str());
         }
         let law = match (nested.is_enum, has_bin) {
-            (_, false) => String::new(alloc),
-            (true, true) => variant_laws(alloc, nested, held, i)?,
-            (false, true) => struct_laws(alloc, nested, held)?,
+            (_, false) => pen.empty(),
+            (true, true) => variant_laws(pen, nested, held, i),
+            (false, true) => struct_laws(pen, nested, held),
         };
-        text.push_str(law.as_str())?;
+        pen.add(&mut text, law.as_str());
     }
-    text.push_str(sets(alloc, nested, has_bin)?.as_str())?;
-    Ok(text)
+    pen.add(&mut text, sets(pen, nested, has_bin).as_str());
+    text
 }
 
 /// The laws by which an enum is made, and those by which a value is written as bytes, if it is.
-fn sets(alloc: Global, nested: &Nested<'_>, has_bin: bool) -> Result<String, AllocError> {
+fn sets(pen: &Pen, nested: &Nested<'_>, has_bin: bool) -> String {
     let snake = nested.names.snake.as_str();
-    let mut text = String::new(alloc);
+    let mut text = pen.empty();
     if nested.is_enum {
-        let names = named(alloc, nested, "view")?;
-        text.push_str(format!(in alloc; "\npub ruleset {snake}_views = ({names})\n")?.as_str())?;
+        let names = named(pen, nested, "view");
+        pen.add(
+            &mut text,
+            pen.two("\npub ruleset {}_views = ({})\n", snake, names.as_str())
+                .as_str(),
+        );
     }
     if has_bin {
-        let names = named(alloc, nested, "written")?;
-        let set = format!(in alloc;
-            "\npub ruleset {snake}_written_laws = (append_assoc, {names})\n"
-        )?;
-        text.push_str(set.as_str())?;
+        let names = named(pen, nested, "written");
+        let set = pen.two(
+            "\npub ruleset {}_written_laws = (append_assoc, {})\n",
+            snake,
+            names.as_str(),
+        );
+        pen.add(&mut text, set.as_str());
     }
-    Ok(text)
+    text
 }
 
 /// The names of the laws of a kind.
-fn named(alloc: Global, nested: &Nested<'_>, kind: &str) -> Result<String, AllocError> {
+fn named(pen: &Pen, nested: &Nested<'_>, kind: &str) -> String {
     let snake = nested.names.snake.as_str();
     if !nested.is_enum {
-        return format!(in alloc; "{snake}_{kind}");
+        return pen.two("{}_{}", snake, kind);
     }
-    let mut names = String::new(alloc);
+    let mut names = pen.empty();
     for held in &nested.contents {
-        names.push_str(if names.is_empty() { "" } else { ", " })?;
-        let end = law_end(alloc, held)?;
-        names.push_str(format!(in alloc; "{snake}_{kind}_{end}")?.as_str())?;
+        pen.add_between(&mut names, ", ");
+        let end = law_end(pen, held);
+        pen.add(
+            &mut names,
+            pen.three("{}_{}_{}", snake, kind, end.as_str()).as_str(),
+        );
     }
-    Ok(names)
+    names
 }
 
 /// The end of the names of the laws of a variant.
-pub(crate) fn law_end(alloc: Global, held: &Held<'_>) -> Result<String, AllocError> {
-    Case::Snake.of_variant(alloc, held.name.as_str())
+pub(crate) fn law_end(pen: &Pen, held: &Held<'_>) -> String {
+    snake_of(pen, held.name.as_str())
 }
 
 /// The laws of a struct.
-fn struct_laws(alloc: Global, nested: &Nested<'_>, held: &Held<'_>) -> Result<String, AllocError> {
-    let written = itself_at(alloc, nested, held.row.written.as_str())?;
-    let legal = struct_legal(alloc, nested, held, &bytes(alloc, nested)?)?;
+fn struct_laws(pen: &Pen, nested: &Nested<'_>, held: &Held<'_>) -> String {
+    let written = itself_at(pen, nested, held.row.written.as_str());
+    let legal = struct_legal(pen, nested, held, &bytes(pen, nested));
     let proof = if nested.is_around() { "refl" } else { WRITTEN };
-    let mut holes = nested.holes(alloc);
-    let proof = holes.fill(proof)?;
+    let mut holes = nested.holes(pen);
+    let proof = pen.whole(holes.fill(proof));
     holes.put("WRITTEN", written.as_str());
     holes.put("PROOF", proof.as_str());
     holes.put("LEGAL", legal.as_str());
-    holes.fill(STRUCT_LAWS)
+    pen.whole(holes.fill(STRUCT_LAWS))
 }
 
 const WRITTEN: &str = "written_seen $SNAKE_nested x ($SNAKE_view x) refl";
@@ -91,26 +96,21 @@ $SNAKE_written x = $PROOF
 $LEGAL";
 
 /// What a variant at its place is seen as.
-fn view_law(
-    alloc: Global,
-    nested: &Nested<'_>,
-    held: &Held<'_>,
-    i: usize,
-) -> Result<String, AllocError> {
+fn view_law(pen: &Pen, nested: &Nested<'_>, held: &Held<'_>, i: usize) -> String {
     let Variant {
         value,
         seen,
         view,
         ..
-    } = variant_at(alloc, nested, held, i)?;
-    let (end, parts) = (law_end(alloc, held)?, binders(alloc, nested, held)?);
-    let mut holes = nested.holes(alloc);
+    } = variant_at(pen, nested, held, i);
+    let (end, parts) = (law_end(pen, held), binders(pen, nested, held));
+    let mut holes = nested.holes(pen);
     holes.put("END", end.as_str());
     holes.put("PARTS", parts.as_str());
     holes.put("VALUE", value.as_str());
     holes.put("SEEN", seen.as_str());
     holes.put("VIEW", view.as_str());
-    holes.fill(VIEW_LAW)
+    pen.whole(holes.fill(VIEW_LAW))
 }
 
 const VIEW_LAW: &str = "
@@ -130,55 +130,47 @@ pub(crate) struct Variant {
 }
 
 /// A value of a variant at its place.
-pub(crate) fn variant_at(
-    alloc: Global,
-    nested: &Nested<'_>,
-    held: &Held<'_>,
-    i: usize,
-) -> Result<Variant, AllocError> {
+pub(crate) fn variant_at(pen: &Pen, nested: &Nested<'_>, held: &Held<'_>, i: usize) -> Variant {
     let (name, snake) = (nested.names.of.as_str(), nested.names.snake.as_str());
-    let (end, values) = (law_end(alloc, held)?, held.values(alloc)?);
-    let value = format!(in alloc; "{name}-{}{values}", held.name)?;
-    Ok(Variant {
-        value: atom(alloc, value.as_str())?,
-        seen: nested.at_place(alloc, i, held.row.value.as_str())?,
-        view: format!(in alloc; "{snake}_view_{end}{values}")?,
-    })
+    let (end, values) = (law_end(pen, held), held.values(pen));
+    let value = pen.three("{}-{}{}", name, held.name.as_str(), values.as_str());
+    Variant {
+        value: atom(pen, value.as_str()),
+        seen: nested.at_place(pen, i, held.row.value.as_str()),
+        view: pen.three("{}_view_{}{}", snake, end.as_str(), values.as_str()),
+    }
 }
 
 /// The laws of a variant at its place as bytes.
-fn variant_laws(
-    alloc: Global,
-    nested: &Nested<'_>,
-    held: &Held<'_>,
-    i: usize,
-) -> Result<String, AllocError> {
+fn variant_laws(pen: &Pen, nested: &Nested<'_>, held: &Held<'_>, i: usize) -> String {
     let snake = nested.names.snake.as_str();
-    let (end, values) = (law_end(alloc, held)?, held.values(alloc)?);
-    let parts = binders(alloc, nested, held)?;
-    let Variant { value, seen, view } = variant_at(alloc, nested, held, i)?;
+    let (end, values) = (law_end(pen, held), held.values(pen));
+    let parts = binders(pen, nested, held);
+    let Variant { value, seen, view } = variant_at(pen, nested, held, i);
     let law = if nested.is_around() {
-        format!(in alloc; "layer_written {}", layer_of(alloc, nested)?)?
+        pen.one("layer_written {}", layer_of(pen, nested).as_str())
     } else {
-        format!(in alloc; "written_seen {snake}_nested")?
+        pen.one("written_seen {}_nested", snake)
     };
-    let of = format!(in alloc;
-        "{law} {value} {} {}",
-        atom(alloc, seen.as_str())?,
-        atom(alloc, view.as_str())?
-    )?;
-    let legal = variant_legal(alloc, nested, (held, i), &bytes(alloc, nested)?)?;
-    let written = itself_at(alloc, nested, held.row.written.as_str())?;
-    let mut holes = nested.holes(alloc);
+    let of = pen.four(
+        "{} {} {} {}",
+        law.as_str(),
+        value.as_str(),
+        atom(pen, seen.as_str()).as_str(),
+        atom(pen, view.as_str()).as_str(),
+    );
+    let legal = variant_legal(pen, nested, (held, i), &bytes(pen, nested));
+    let written = itself_at(pen, nested, held.row.written.as_str());
+    let mut holes = nested.holes(pen);
     holes.put("END", end.as_str());
     holes.put("PARTS", parts.as_str());
     holes.put("VALUE", value.as_str());
-    holes.put("PLACE", format!(in alloc; "{i}")?.as_str());
+    holes.put("PLACE", pen.one("{}", pen.number(i).as_str()).as_str());
     holes.put("WRITTEN", written.as_str());
     holes.put("GIVEN", values.as_str());
     holes.put("LAW", of.as_str());
     holes.put("LEGAL", legal.as_str());
-    holes.fill(VARIANT_LAWS)
+    pen.whole(holes.fill(VARIANT_LAWS))
 }
 
 const VARIANT_LAWS: &str = "
@@ -190,42 +182,42 @@ $SNAKE_written_$END$GIVEN =
 $LEGAL";
 
 /// What bytes call legal.
-fn bytes(alloc: Global, nested: &Nested<'_>) -> Result<Known, AllocError> {
+fn bytes(pen: &Pen, nested: &Nested<'_>) -> Known {
     let snake = nested.names.snake.as_str();
     let law = if nested.is_around() {
-        format!(in alloc; "layer_legal {}", layer_of(alloc, nested)?)?
+        pen.one("layer_legal {}", layer_of(pen, nested).as_str())
     } else {
-        format!(in alloc; "seen_legal {snake}_nested")?
+        pen.one("seen_legal {}_nested", snake)
     };
-    Ok(Known {
-        codec: format!(in alloc; "{snake}_codec")?,
-        within: format!(in alloc; "{}_codec", nested.root().snake)?,
+    Known {
+        codec: pen.one("{}_codec", snake),
+        within: pen.one("{}_codec", nested.root().snake.as_str()),
         law,
-    })
+    }
 }
 
 /// How a type is seen that is around values of the root, its layer, and the codec of the root.
-fn layer_of(alloc: Global, nested: &Nested<'_>) -> Result<String, AllocError> {
+fn layer_of(pen: &Pen, nested: &Nested<'_>) -> String {
     let (snake, root) = (nested.names.snake.as_str(), nested.root().snake.as_str());
-    format!(in alloc; "{snake}_view {snake}_layer {root}_codec")
+    pen.three("{}_view {}_layer {}_codec", snake, snake, root)
 }
 
 /// A term with the codec of the type itself in its hole.
-fn itself_at(alloc: Global, nested: &Nested<'_>, term: &str) -> Result<String, AllocError> {
-    let codec = format!(in alloc; "{}_codec", nested.root().snake)?;
-    at(alloc, term, codec.as_str())
+fn itself_at(pen: &Pen, nested: &Nested<'_>, term: &str) -> String {
+    let codec = pen.one("{}_codec", nested.root().snake.as_str());
+    at(pen, term, codec.as_str())
 }
 
 /// The parts of a variant as arguments of a law.
-pub(crate) fn binders(
-    alloc: Global,
-    nested: &Nested<'_>,
-    held: &Held<'_>,
-) -> Result<String, AllocError> {
-    let mut text = String::new(alloc);
+pub(crate) fn binders(pen: &Pen, nested: &Nested<'_>, held: &Held<'_>) -> String {
+    let mut text = pen.empty();
     for leaf in &held.leaves {
-        let of = at(alloc, leaf.part.of.as_str(), nested.root().of.as_str())?;
-        text.push_str(format!(in alloc; "({} : {of})\n    → ", leaf.value)?.as_str())?;
+        let of = at(pen, leaf.part.of.as_str(), nested.root().of.as_str());
+        pen.add(
+            &mut text,
+            pen.two("({} : {})\n    → ", leaf.value.as_str(), of.as_str())
+                .as_str(),
+        );
     }
-    Ok(text)
+    text
 }

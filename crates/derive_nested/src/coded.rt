@@ -4,7 +4,7 @@
 use crate::cases::{Claim, Said, proof};
 use crate::definitions::cases;
 use crate::nested::Nested;
-use std::alloc::{AllocError, Global};
+use derive_pen::Pen;
 
 /// What differs between the formats, where the layer of a type is said.
 #[derive(Clone, Copy)]
@@ -17,47 +17,43 @@ pub(crate) struct Coded {
 
 /// That what a value means and how deep it is are said by the layer, and the record of these, or the
 /// layer around values of the root.
-pub(crate) fn nested_record(
-    alloc: Global,
-    nested: &Nested<'_>,
-    format: Coded,
-) -> Result<String, AllocError> {
-    let mut text = opened(alloc, nested, format.infix)?;
+pub(crate) fn nested_record(pen: &Pen, nested: &Nested<'_>, format: Coded) -> String {
+    let mut text = opened(pen, nested, format.infix);
     let record = if nested.is_around() { AROUND } else { RECORD };
-    let mut holes = nested.all_holes(alloc)?;
+    let mut holes = nested.all_holes(pen);
     holes.put("INFIX", format.infix);
     holes.put("OF", format.of);
-    text.push_str(holes.fill(record)?.as_str())?;
-    Ok(text)
+    pen.add(&mut text, pen.whole(holes.fill(record)).as_str());
+    text
 }
 
 /// That what a value means and how deep it is are said by the layer.
-fn opened(alloc: Global, nested: &Nested<'_>, infix: &str) -> Result<String, AllocError> {
-    let mut means = Vec::new(alloc);
-    let mut depths = Vec::new(alloc);
+fn opened(pen: &Pen, nested: &Nested<'_>, infix: &str) -> String {
+    let mut means = Vec::new(pen.alloc());
+    let mut depths = Vec::new(pen.alloc());
     for (i, held) in nested.contents.iter().enumerate() {
         let said = Said::Means(i);
-        means.push(proof(alloc, nested, held, Claim { infix, said })?)?;
+        pen.push(&mut means, proof(pen, nested, held, Claim { infix, said }));
         let said = Said::Depth;
-        depths.push(proof(alloc, nested, held, Claim { infix, said })?)?;
+        pen.push(&mut depths, proof(pen, nested, held, Claim { infix, said }));
     }
     let means = cases(
-        alloc,
+        pen,
         nested,
-        format!(in alloc; "{infix}means_opened")?.as_str(),
+        pen.one("{}means_opened", infix).as_str(),
         &means,
-    )?;
+    );
     let depths = cases(
-        alloc,
+        pen,
         nested,
-        format!(in alloc; "{infix}depth_opened")?.as_str(),
+        pen.one("{}depth_opened", infix).as_str(),
         &depths,
-    )?;
-    let mut holes = nested.all_holes(alloc)?;
+    );
+    let mut holes = nested.all_holes(pen);
     holes.put("INFIX", infix);
     holes.put("MEANS", means.as_str());
     holes.put("DEPTHS", depths.as_str());
-    holes.fill(OPENED)
+    pen.whole(holes.fill(OPENED))
 }
 
 const OPENED: &str = "

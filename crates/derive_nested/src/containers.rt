@@ -3,63 +3,62 @@
 
 use crate::keys::{Keys, keys_of};
 use crate::part::{Part, nothing_part, other_part};
-use crate::wrapped::{at, atom, function};
+use crate::wrapped::{applied, at, atom, function};
+use derive_pen::Pen;
 use derive_syntax::Container;
-use std::alloc::{AllocError, Global};
 
 /// What is said of a collection of these parts.
-pub(crate) fn container_part(
-    alloc: Global,
-    container: Container<'_>,
-    parts: &[Part],
-) -> Result<Part, AllocError> {
+pub(crate) fn container_part(pen: &Pen, container: Container<'_>, parts: &[Part]) -> Part {
     match (container, parts) {
-        (Container::BTreeSet(key), _) => ordered_set(alloc, &keys_of(alloc, key)?),
-        (Container::HashSet(key), _) => hashed_set(alloc, &keys_of(alloc, key)?),
-        (Container::Tuple, _) => tuple(alloc, parts),
-        (Container::Array(count), [part]) => array(alloc, count, part),
-        (Container::LinkedList, [part]) => linked_list(alloc, part),
-        (Container::HashMap(key), [part]) => hashed_map(alloc, &keys_of(alloc, key)?, part),
-        _ => nothing_part(alloc),
+        (Container::BTreeSet(key), _) => ordered_set(pen, &keys_of(pen, key)),
+        (Container::HashSet(key), _) => hashed_set(pen, &keys_of(pen, key)),
+        (Container::Tuple, _) => tuple(pen, parts),
+        (Container::Array(count), [part]) => array(pen, count, part),
+        (Container::LinkedList, [part]) => linked_list(pen, part),
+        (Container::HashMap(key), [part]) => hashed_map(pen, &keys_of(pen, key), part),
+        _ => nothing_part(pen),
     }
 }
 
 /// What is said of an array of so many items.
-fn array(alloc: Global, count: &str, part: &Part) -> Result<Part, AllocError> {
-    let codec = atom(alloc, part.codec.as_str())?;
-    let legal = atom(alloc, part.legal.as_str())?;
+fn array(pen: &Pen, count: &str, part: &Part) -> Part {
+    let codec = atom(pen, part.codec.as_str());
+    let legal = atom(pen, part.legal.as_str());
     items(
-        alloc,
+        pen,
         part,
-        format!(in alloc; "array_codec {count} {codec}")?.as_str(),
-        format!(in alloc; "LegalArray {count} {legal}")?.as_str(),
+        pen.two("array_codec {} {}", count, codec.as_str()).as_str(),
+        pen.two("LegalArray {} {}", count, legal.as_str()).as_str(),
     )
 }
 
 /// What is said of a linked list.
-fn linked_list(alloc: Global, part: &Part) -> Result<Part, AllocError> {
-    let codec = atom(alloc, part.codec.as_str())?;
-    let legal = atom(alloc, part.legal.as_str())?;
+fn linked_list(pen: &Pen, part: &Part) -> Part {
+    let codec = atom(pen, part.codec.as_str());
+    let legal = atom(pen, part.legal.as_str());
     items(
-        alloc,
+        pen,
         part,
-        format!(in alloc; "linked_codec {codec}")?.as_str(),
-        format!(in alloc; "LegalList {legal}")?.as_str(),
+        pen.one("linked_codec {}", codec.as_str()).as_str(),
+        pen.one("LegalList {}", legal.as_str()).as_str(),
     )
 }
 
 /// What is said of items that are a list, with this codec, and of which these meanings are legal.
-fn items(alloc: Global, part: &Part, codec: &str, legal: &str) -> Result<Part, AllocError> {
-    let of = format!(in alloc; "List {}", atom(alloc, part.of.as_str())?)?;
-    let means = format!(in alloc; "listed (map {} $)", function(alloc, part.means.as_str())?)?;
-    other_part(alloc, (of.as_str(), codec, means.as_str(), legal))
+fn items(pen: &Pen, part: &Part, codec: &str, legal: &str) -> Part {
+    let of = applied(pen, "List", part.of.as_str());
+    let means = pen.one(
+        "listed (map {} $)",
+        function(pen, part.means.as_str()).as_str(),
+    );
+    other_part(pen, (of.as_str(), codec, means.as_str(), legal))
 }
 
 /// What hashed collections hash with.
 const HASHER: &str = "(BuildHasherDefault FoldHasher)";
 
 /// What is said of a hashed set.
-fn hashed_set(alloc: Global, keys: &Keys) -> Result<Part, AllocError> {
+fn hashed_set(pen: &Pen, keys: &Keys) -> Part {
     let Keys {
         codec,
         legal,
@@ -67,21 +66,23 @@ fn hashed_set(alloc: Global, keys: &Keys) -> Result<Part, AllocError> {
         order,
         ..
     } = keys;
-    let of = format!(in alloc; "HashSet {} {HASHER}", keys.of)?;
-    let codec = format!(in alloc;
-        "codec_as (λ (x : {of}). x.keys) (set_codec {} {codec})",
-        order.meanings
-    )?;
-    let means = format!(in alloc; "set_means (item_set {means} $.keys)")?;
-    let legal = format!(in alloc; "LegalSet {legal}")?;
+    let of = pen.two("HashSet {} {}", keys.of.as_str(), HASHER);
+    let codec = pen.three(
+        "codec_as (λ (x : {}). x.keys) (set_codec {} {})",
+        of.as_str(),
+        order.meanings,
+        codec.as_str(),
+    );
+    let means = pen.one("set_means (item_set {} $.keys)", means.as_str());
+    let legal = pen.one("LegalSet {}", legal.as_str());
     other_part(
-        alloc,
+        pen,
         (of.as_str(), codec.as_str(), means.as_str(), legal.as_str()),
     )
 }
 
 /// What is said of an ordered set.
-fn ordered_set(alloc: Global, keys: &Keys) -> Result<Part, AllocError> {
+fn ordered_set(pen: &Pen, keys: &Keys) -> Part {
     let Keys {
         codec,
         legal,
@@ -89,37 +90,44 @@ fn ordered_set(alloc: Global, keys: &Keys) -> Result<Part, AllocError> {
         order,
         ..
     } = keys;
-    let of = format!(in alloc; "BTreeSet {}", keys.of)?;
-    let codec = format!(in alloc;
-        "codec_as (λ (x : {of}). x.keys) (ordered_codec {} {} {codec})",
-        order.meanings, order.compare
-    )?;
-    let means = format!(in alloc; "ordered_means {} {means} $.keys", order.compare)?;
-    let legal = format!(in alloc; "LegalSet {legal}")?;
+    let of = pen.one("BTreeSet {}", keys.of.as_str());
+    let codec = pen.four(
+        "codec_as (λ (x : {}). x.keys) (ordered_codec {} {} {})",
+        of.as_str(),
+        order.meanings,
+        order.compare,
+        codec.as_str(),
+    );
+    let means = pen.two("ordered_means {} {} $.keys", order.compare, means.as_str());
+    let legal = pen.one("LegalSet {}", legal.as_str());
     other_part(
-        alloc,
+        pen,
         (of.as_str(), codec.as_str(), means.as_str(), legal.as_str()),
     )
 }
 
 /// What is said of a hashed map.
-fn hashed_map(alloc: Global, keys: &Keys, part: &Part) -> Result<Part, AllocError> {
-    let value = atom(alloc, part.of.as_str())?;
-    let value_codec = atom(alloc, part.codec.as_str())?;
-    let value_means = function(alloc, part.means.as_str())?;
-    let value_legal = atom(alloc, part.legal.as_str())?;
-    let of = format!(in alloc; "HashMap {} {value} {HASHER}", keys.of)?;
-    let codec = format!(in alloc;
-        "codec_as (λ (x : {of}). x.entries) (map_codec {} {} {value_codec})",
-        keys.order.meanings, keys.codec
-    )?;
-    let means = format!(in alloc;
-        "table_means (table_of {} {value_means} $.entries)",
-        keys.means
-    )?;
-    let legal = format!(in alloc; "LegalMap {} {value_legal}", keys.legal)?;
+fn hashed_map(pen: &Pen, keys: &Keys, part: &Part) -> Part {
+    let value = atom(pen, part.of.as_str());
+    let value_codec = atom(pen, part.codec.as_str());
+    let value_means = function(pen, part.means.as_str());
+    let value_legal = atom(pen, part.legal.as_str());
+    let of = pen.three("HashMap {} {} {}", keys.of.as_str(), value.as_str(), HASHER);
+    let codec = pen.four(
+        "codec_as (λ (x : {}). x.entries) (map_codec {} {} {})",
+        of.as_str(),
+        keys.order.meanings,
+        keys.codec.as_str(),
+        value_codec.as_str(),
+    );
+    let means = pen.two(
+        "table_means (table_of {} {} $.entries)",
+        keys.means.as_str(),
+        value_means.as_str(),
+    );
+    let legal = pen.two("LegalMap {} {}", keys.legal.as_str(), value_legal.as_str());
     other_part(
-        alloc,
+        pen,
         (of.as_str(), codec.as_str(), means.as_str(), legal.as_str()),
     )
 }
@@ -128,32 +136,38 @@ fn hashed_map(alloc: Global, keys: &Keys, part: &Part) -> Result<Part, AllocErro
 const PLACES: [&str; 4] = ["$.0", "$.1", "$.2", "$.3"];
 
 /// What is said of a tuple.
-fn tuple(alloc: Global, parts: &[Part]) -> Result<Part, AllocError> {
-    let mut of = String::new(alloc);
-    let mut codec = String::from_str(alloc, codec_of(parts.len()))?;
-    let mut means = String::new(alloc);
-    let mut legal = String::new(alloc);
+fn tuple(pen: &Pen, parts: &[Part]) -> Part {
+    let mut of = pen.empty();
+    let mut codec = pen.copy(codec_of(parts.len()));
+    let mut means = pen.empty();
+    let mut legal = pen.empty();
     for (i, (part, place)) in parts.iter().zip(&PLACES).enumerate() {
         let is_last = i.saturating_add(1) == parts.len();
-        of.push_str(if i == 0 { "" } else { " × " })?;
-        of.push_str(atom(alloc, part.of.as_str())?.as_str())?;
-        codec.push(' ')?;
-        codec.push_str(atom(alloc, part.codec.as_str())?.as_str())?;
-        let meant = at(alloc, part.means.as_str(), *place)?;
-        let set = atom(alloc, part.legal.as_str())?;
-        means.push_str(before(i, is_last, ("paired (", ", paired (", ", ")))?;
-        means.push_str(meant.as_str())?;
-        legal.push_str(before(i, is_last, ("LegalPair ", " (LegalPair ", " ")))?;
-        legal.push_str(set.as_str())?;
+        pen.add(&mut of, if i == 0 { "" } else { " × " });
+        pen.add(&mut of, atom(pen, part.of.as_str()).as_str());
+        pen.add(&mut codec, " ");
+        pen.add(&mut codec, atom(pen, part.codec.as_str()).as_str());
+        let meant = at(pen, part.means.as_str(), *place);
+        let set = atom(pen, part.legal.as_str());
+        pen.add(
+            &mut means,
+            before(i, is_last, ("paired (", ", paired (", ", ")),
+        );
+        pen.add(&mut means, meant.as_str());
+        pen.add(
+            &mut legal,
+            before(i, is_last, ("LegalPair ", " (LegalPair ", " ")),
+        );
+        pen.add(&mut legal, set.as_str());
     }
     for _closing in 1..parts.len() {
-        means.push(')')?;
+        pen.add(&mut means, ")");
     }
     for _closing in 2..parts.len() {
-        legal.push(')')?;
+        pen.add(&mut legal, ")");
     }
     other_part(
-        alloc,
+        pen,
         (of.as_str(), codec.as_str(), means.as_str(), legal.as_str()),
     )
 }

@@ -2,8 +2,8 @@
 //! all of them.
 
 use crate::part::Names;
+use derive_pen::Pen;
 use derive_syntax::{Case, Cycle, Definition, Holes, Shape, Source};
-use std::alloc::{AllocError, Global};
 
 /// The types of a cycle.
 #[derive(Drop)]
@@ -15,65 +15,61 @@ pub(crate) struct Members {
 }
 
 /// The names of a type, by its name in the program.
-pub(crate) fn names_of(alloc: Global, name: &str) -> Result<Names, AllocError> {
-    Ok(Names {
-        of: String::from_str(alloc, name)?,
-        snake: Case::Snake.of_variant(alloc, name)?,
-    })
+pub(crate) fn names_of(pen: &Pen, name: &str) -> Names {
+    Names {
+        of: pen.copy(name),
+        snake: snake_of(pen, name),
+    }
+}
+
+/// The name of a type in snake case.
+pub(crate) fn snake_of(pen: &Pen, name: &str) -> String {
+    pen.whole(Case::Snake.of_variant(pen.alloc(), name))
 }
 
 /// The types of a cycle of a source.
-pub(crate) fn members_of<'a>(
-    alloc: Global,
-    source: &Source<'a>,
-    cycle: &Cycle<'a>,
-) -> Result<Members, AllocError> {
-    let mut all = Vec::new(alloc);
+pub(crate) fn members_of<'a>(pen: &Pen, source: &Source<'a>, cycle: &Cycle<'a>) -> Members {
+    let mut all = Vec::new(pen.alloc());
     for are_enums in [true, false] {
-        for name in sorted(alloc, source, cycle, are_enums)? {
-            all.push(names_of(alloc, name)?)?;
+        for name in sorted(pen, source, cycle, are_enums) {
+            pen.push(&mut all, names_of(pen, name));
         }
     }
-    Ok(Members {
+    Members {
         all,
-        root: names_of(alloc, cycle.root.text)?,
-    })
+        root: names_of(pen, cycle.root.text),
+    }
 }
 
 /// The names of the enums of a cycle, or of its structs, ascending: so the prover has them, enums
 /// first.
-fn sorted<'a>(
-    alloc: Global,
-    source: &Source<'a>,
-    cycle: &Cycle<'a>,
-    are_enums: bool,
-) -> Result<Vec<&'a str>, AllocError> {
-    let mut names: Vec<&str> = Vec::new(alloc);
+fn sorted<'a>(pen: &Pen, source: &Source<'a>, cycle: &Cycle<'a>, are_enums: bool) -> Vec<&'a str> {
+    let mut names: Vec<&str> = Vec::new(pen.alloc());
     for definition in &source.definitions {
         let is_enum = matches!(definition.shape, Shape::Variants(_));
         if is_enum == are_enums && definition.name.is_among(&cycle.names) {
-            names.push(definition.name.text)?;
+            pen.push(&mut names, definition.name.text);
         }
     }
-    names.sort()?;
-    Ok(names)
+    pen.sort(&mut names);
+    names
 }
 
 /// What the prover calls a variant of an enum beside those of all types of a cycle: by its name, or
 /// by that of the enum and its own where another enum has a variant of that name.
 pub(crate) fn constructor_of<'a>(
-    alloc: Global,
+    pen: &Pen,
     source: &Source<'a>,
     cycle: &Cycle<'a>,
     (of, variant): (&str, &str),
-) -> Result<String, AllocError> {
+) -> String {
     for definition in &source.definitions {
         let is_other = definition.name.text != of && definition.name.is_among(&cycle.names);
         if is_other && has_variant(definition, variant) {
-            return format!(in alloc; "{of}::{variant}");
+            return pen.two("{}::{}", of, variant);
         }
     }
-    String::from_str(alloc, variant)
+    pen.copy(variant)
 }
 
 /// Whether a type is an enum with a variant of this name.
@@ -105,28 +101,27 @@ impl Members {
 
     /// A text for each, after a space but the first: one for the root, and one for each other, with
     /// the holes `NAME` and `SNAKE` for its names.
-    fn each(&self, alloc: Global, root: &str, other: &str) -> Result<String, AllocError> {
-        let mut text = String::new(alloc);
+    fn each(&self, pen: &Pen, root: &str, other: &str) -> String {
+        let mut text = pen.empty();
         for names in &self.all {
             let is_root = names.of.as_str() == self.root.of.as_str();
-            let mut holes = Holes::new(alloc);
+            let mut holes = Holes::new(pen.alloc());
             holes.put("NAME", names.of.as_str());
             holes.put("SNAKE", names.snake.as_str());
-            text.push_str(if text.is_empty() { "" } else { " " })?;
+            pen.add_between(&mut text, " ");
             let template = if is_root { root } else { other };
-            text.push_str(holes.fill(template)?.as_str())?;
+            pen.add(&mut text, pen.whole(holes.fill(template)).as_str());
         }
-        Ok(text)
+        text
     }
 
     /// Puts what speaks of all of them into holes.
-    pub(crate) fn put(&self, alloc: Global, holes: &mut Holes) -> Result<(), AllocError> {
+    pub(crate) fn put(&self, pen: &Pen, holes: &mut Holes) {
         holes.put("ROOT", self.root.of.as_str());
         holes.put("BASE", self.root.snake.as_str());
         for (hole, root, other) in TERMS {
-            holes.put(*hole, self.each(alloc, *root, *other)?.as_str());
+            holes.put(*hole, self.each(pen, *root, *other).as_str());
         }
-        Ok(())
     }
 }
 

@@ -5,69 +5,65 @@ use crate::around::around_means;
 use crate::held::Held;
 use crate::nested::Nested;
 use crate::weaker::weaker;
-use crate::wrapped::atom;
-use std::alloc::{AllocError, Global};
+use crate::wrapped::{applied, atom};
+use derive_pen::Pen;
 
 /// The definitions of types that contain each other, or of one that contains itself, which have
 /// several formats or one.
-pub(crate) fn definitions(
-    alloc: Global,
-    members: &[Nested<'_>],
-    has_several: bool,
-) -> Result<String, AllocError> {
-    let mut text = String::new(alloc);
+pub(crate) fn definitions(pen: &Pen, members: &[Nested<'_>], has_several: bool) -> String {
+    let mut text = pen.empty();
     for nested in members {
-        text.push_str(seen(alloc, nested)?.as_str())?;
+        pen.add(&mut text, seen(pen, nested).as_str());
     }
-    text.push_str("\n-- ---- what it means, and how deep it is\n")?;
+    pen.add(&mut text, "\n-- ---- what it means, and how deep it is\n");
     for nested in members {
-        text.push_str(meant(alloc, nested)?.as_str())?;
+        pen.add(&mut text, meant(pen, nested).as_str());
     }
-    for nested in root_first(alloc, members)? {
-        text.push_str(folded(alloc, nested)?.as_str())?;
+    for nested in root_first(pen, members) {
+        pen.add(&mut text, folded(pen, nested).as_str());
     }
     for nested in members {
         if has_several {
-            text.push_str(legal(alloc, nested)?.as_str())?;
+            pen.add(&mut text, legal(pen, nested).as_str());
         }
         if has_several && nested.is_generic() {
-            text.push_str(weaker(alloc, nested)?.as_str())?;
+            pen.add(&mut text, weaker(pen, nested).as_str());
         }
     }
-    Ok(text)
+    text
 }
 
 /// Types that contain each other, of which the root is the last, with the root before the others.
-pub(crate) fn root_first<'s, 'a>(
-    alloc: Global,
-    members: &'s [Nested<'a>],
-) -> Result<Vec<&'s Nested<'a>>, AllocError> {
-    let mut ordered = Vec::new(alloc);
+pub(crate) fn root_first<'s, 'a>(pen: &Pen, members: &'s [Nested<'a>]) -> Vec<&'s Nested<'a>> {
+    let mut ordered = Vec::new(pen.alloc());
     if let Some((root, others)) = members.split_last() {
-        ordered.push(root)?;
+        pen.push(&mut ordered, root);
         for nested in others {
-            ordered.push(nested)?;
+            pen.push(&mut ordered, nested);
         }
     }
-    Ok(ordered)
+    ordered
 }
 
 // ---- what a value is seen as
 
 /// What a value is seen as.
-fn seen(alloc: Global, nested: &Nested<'_>) -> Result<String, AllocError> {
-    let head = format!(in alloc; "{}Content X", nested.names.of)?;
-    let content = nested.seen(alloc, "X")?;
-    let content = equation(alloc, head.as_str(), content.as_str())?;
-    let mut values = Vec::new(alloc);
+fn seen(pen: &Pen, nested: &Nested<'_>) -> String {
+    let head = pen.one("{}Content X", nested.names.of.as_str());
+    let content = nested.seen(pen, "X");
+    let content = equation(pen, head.as_str(), content.as_str());
+    let mut values = Vec::new(pen.alloc());
     for (i, held) in nested.contents.iter().enumerate() {
-        values.push(nested.at_place(alloc, i, held.row.value.as_str())?)?;
+        pen.push(
+            &mut values,
+            nested.at_place(pen, i, held.row.value.as_str()),
+        );
     }
-    let opened = cases(alloc, nested, "opened", &values)?;
-    let mut holes = nested.all_holes(alloc)?;
+    let opened = cases(pen, nested, "opened", &values);
+    let mut holes = nested.all_holes(pen);
     holes.put("CONTENT", content.as_str());
     holes.put("OPENED", opened.as_str());
-    holes.fill(SEEN)
+    pen.whole(holes.fill(SEEN))
 }
 
 const SEEN: &str = "
@@ -85,63 +81,79 @@ $SNAKE_view x = $SNAKE_opened (out-$NAME x)
 const COLUMNS: usize = 100;
 
 /// The line of a definition: what is defined, and the term; or two lines, where it is too long.
-pub(crate) fn equation(alloc: Global, head: &str, term: &str) -> Result<String, AllocError> {
-    let line = format!(in alloc; "{head} = {term}")?;
+pub(crate) fn equation(pen: &Pen, head: &str, term: &str) -> String {
+    let line = pen.two("{} = {}", head, term);
     if line.chars().count() <= COLUMNS {
-        format!(in alloc; "{line}\n")
+        pen.one("{}\n", line.as_str())
     } else {
-        format!(in alloc; "{head} =\n    {term}\n")
+        pen.two("{} =\n    {}\n", head, term)
     }
 }
 
 /// A definition by cases, of which there is one for each variant or for the struct: the end of its
 /// name, and the terms.
-pub(crate) fn cases(
-    alloc: Global,
-    nested: &Nested<'_>,
-    end: &str,
-    terms: &[String],
-) -> Result<String, AllocError> {
-    let mut text = String::new(alloc);
+pub(crate) fn cases(pen: &Pen, nested: &Nested<'_>, end: &str, terms: &[String]) -> String {
+    let mut text = pen.empty();
     for (held, term) in nested.contents.iter().zip(terms.iter()) {
-        let pattern = pattern(alloc, nested, held)?;
-        let head = format!(in alloc; "{}_{end} {pattern}", nested.names.snake)?;
-        text.push_str(equation(alloc, head.as_str(), term.as_str())?.as_str())?;
+        let pattern = pattern(pen, nested, held);
+        let head = pen.three(
+            "{}_{} {}",
+            nested.names.snake.as_str(),
+            end,
+            pattern.as_str(),
+        );
+        pen.add(
+            &mut text,
+            equation(pen, head.as_str(), term.as_str()).as_str(),
+        );
     }
-    Ok(text)
+    text
 }
 
 /// What stands for the values in a definition by cases.
-fn pattern(alloc: Global, nested: &Nested<'_>, held: &Held<'_>) -> Result<String, AllocError> {
+fn pattern(pen: &Pen, nested: &Nested<'_>, held: &Held<'_>) -> String {
     if !nested.is_enum {
-        return String::from_str(alloc, "y");
+        return pen.copy("y");
     }
-    let (name, values) = (nested.names.of.as_str(), held.values(alloc)?);
-    let value = format!(in alloc; "{name}-F.{}{values}", held.constructor)?;
-    atom(alloc, value.as_str())
+    let (name, values) = (nested.names.of.as_str(), held.values(pen));
+    let value = pen.three(
+        "{}-F.{}{}",
+        name,
+        held.constructor.as_str(),
+        values.as_str(),
+    );
+    atom(pen, value.as_str())
 }
 
 // ---- what it means, and how deep it is
 
 /// What a value means, and how deep it is, step by step. A type alone is folded beside each.
-fn meant(alloc: Global, nested: &Nested<'_>) -> Result<String, AllocError> {
-    let mut steps = Vec::new(alloc);
-    let mut depths = Vec::new(alloc);
+fn meant(pen: &Pen, nested: &Nested<'_>) -> String {
+    let mut steps = Vec::new(pen.alloc());
+    let mut depths = Vec::new(pen.alloc());
     for (i, held) in nested.contents.iter().enumerate() {
-        steps.push(step(alloc, nested, held, i)?)?;
-        depths.push(held.row.part.depth.clone()?)?;
+        pen.push(&mut steps, step(pen, nested, held, i));
+        pen.push(&mut depths, pen.copy(held.row.part.depth.as_str()));
     }
-    let steps = cases(alloc, nested, "means_step", &steps)?;
-    let depths = cases(alloc, nested, "depth_step", &depths)?;
-    let mut holes = nested.all_holes(alloc)?;
+    let steps = cases(pen, nested, "means_step", &steps);
+    let depths = cases(pen, nested, "depth_step", &depths);
+    let mut holes = nested.all_holes(pen);
     holes.put("STEPS", steps.as_str());
     holes.put("DEPTHS", depths.as_str());
     let is_alone = !nested.members.are_several();
-    let mut text = holes.fill(MEANS_STEP)?;
-    text.push_str(holes.fill(if is_alone { MEANS } else { "" })?.as_str())?;
-    text.push_str(holes.fill(DEPTH_STEP)?.as_str())?;
-    text.push_str(holes.fill(if is_alone { DEPTH } else { "" })?.as_str())?;
-    Ok(text)
+    let mut text = pen.whole(holes.fill(MEANS_STEP));
+    pen.add(
+        &mut text,
+        pen.whole(holes.fill(if is_alone { MEANS } else { "" }))
+            .as_str(),
+    );
+    pen.add(&mut text, pen.whole(holes.fill(DEPTH_STEP)).as_str());
+    pen.add(
+        &mut text,
+        pen.whole(holes.fill(if is_alone { DEPTH } else { "" }))
+            .as_str(),
+    );
+    text
 }
 
 const MEANS_STEP: &str = "
@@ -163,18 +175,18 @@ $SNAKE_depth = fold-$NAME $AS_DEPTHS $ALL_DEPTHS
 ";
 
 /// What a value of a type means that is one of several, and how deep it is, by the steps of all.
-fn folded(alloc: Global, nested: &Nested<'_>) -> Result<String, AllocError> {
+fn folded(pen: &Pen, nested: &Nested<'_>) -> String {
     if !nested.members.are_several() {
-        return Ok(String::new(alloc));
+        return pen.empty();
     }
-    let mut holes = nested.all_holes(alloc)?;
+    let mut holes = nested.all_holes(pen);
     if !nested.is_around() {
-        let mut text = holes.fill(MEANS)?;
-        text.push_str(holes.fill(DEPTH)?.as_str())?;
-        return Ok(text);
+        let mut text = pen.whole(holes.fill(MEANS));
+        pen.add(&mut text, pen.whole(holes.fill(DEPTH)).as_str());
+        return text;
     }
-    holes.put("SAID", around_means(alloc, nested)?.as_str());
-    holes.fill(FOLDED)
+    holes.put("SAID", around_means(pen, nested).as_str());
+    pen.whole(holes.fill(FOLDED))
 }
 
 const FOLDED: &str = "
@@ -191,50 +203,57 @@ $SNAKE_means x =
 ";
 
 /// What a value of a variant at its place means, or one of the struct.
-fn step(
-    alloc: Global,
-    nested: &Nested<'_>,
-    held: &Held<'_>,
-    i: usize,
-) -> Result<String, AllocError> {
+fn step(pen: &Pen, nested: &Nested<'_>, held: &Held<'_>, i: usize) -> String {
     let step = held.row.part.step.as_str();
     if nested.is_enum {
-        format!(in alloc; "tagged {i} {}", atom(alloc, step)?)
+        pen.two(
+            "tagged {} {}",
+            pen.number(i).as_str(),
+            atom(pen, step).as_str(),
+        )
     } else {
-        String::from_str(alloc, step)
+        pen.copy(step)
     }
 }
 
 // ---- which meanings are legal
 
 /// Which meanings are legal, in every format.
-fn legal(alloc: Global, nested: &Nested<'_>) -> Result<String, AllocError> {
+fn legal(pen: &Pen, nested: &Nested<'_>) -> String {
     let snake = nested.names.snake.as_str();
-    let mut sets: Option<String> = None;
-    for held in nested.contents.iter().rev() {
-        let set = held.row.part.legal.clone()?;
-        sets = match sets {
-            _ if !nested.is_enum => Some(set),
-            None => Some(format!(in alloc; "variant {} no_variants", atom(alloc, set.as_str())?)?),
-            Some(rest) => Some(format!(in alloc;
-                "variant {} ({rest})",
-                atom(alloc, set.as_str())?
-            )?),
-        };
-    }
-    let sets = sets.unwrap_or(String::from_str(alloc, "LegalUnit")?);
-    let set = if nested.is_enum {
-        format!(in alloc; "LegalVariant {}", atom(alloc, sets.as_str())?)?
-    } else {
-        sets
-    };
-    let head = format!(in alloc; "{snake}_step P")?;
-    let line = equation(alloc, head.as_str(), set.as_str())?;
-    format!(in alloc;
+    let head = pen.one("{}_step P", snake);
+    let line = equation(pen, head.as_str(), legal_set(pen, nested).as_str());
+    pen.two(
         "
 -- ---- which meanings are legal, given those that are of the values in it
 
-abbrev pub {snake}_step : LegalStep
-{line}"
+abbrev pub {}_step : LegalStep
+{}",
+        snake,
+        line.as_str(),
     )
+}
+
+/// The set of the legal meanings.
+fn legal_set(pen: &Pen, nested: &Nested<'_>) -> String {
+    if nested.is_enum {
+        return applied(pen, "LegalVariant", legal_variants(pen, nested).as_str());
+    }
+    match nested.contents.first() {
+        Some(held) => pen.copy(held.row.part.legal.as_str()),
+        None => pen.copy("LegalUnit"),
+    }
+}
+
+/// The legal meanings of each variant, those of the first and then the rest.
+fn legal_variants(pen: &Pen, nested: &Nested<'_>) -> String {
+    if nested.contents.is_empty() {
+        return pen.copy("LegalUnit");
+    }
+    let mut sets = pen.copy("no_variants");
+    for held in nested.contents.iter().rev() {
+        let variant = applied(pen, "variant", held.row.part.legal.as_str());
+        sets = applied(pen, variant.as_str(), sets.as_str());
+    }
+    sets
 }

@@ -5,8 +5,8 @@ use crate::held::Held;
 use crate::json_rows::steps_of;
 use crate::nested::Nested;
 use crate::ron_rows::calls_of;
+use derive_pen::Pen;
 use derive_syntax::Holes;
-use std::alloc::{AllocError, Global};
 
 /// Of so many fields the search finds the steps of a type. With parameters it finds few.
 fn found(nested: &Nested<'_>) -> usize {
@@ -53,93 +53,83 @@ of_error (Err e) p = p
 /// The answers for the steps that fail late of a function of the writer of JSON, which appends the
 /// fields of a struct or of a variant.
 pub(crate) fn late_json_answers(
-    alloc: Global,
+    pen: &Pen,
     nested: &Nested<'_>,
     held: &Held<'_>,
     append: &str,
-) -> Result<String, AllocError> {
-    let function = format!(in alloc; "{}JsonWriter::{append}", nested.names.of)?;
-    let steps = steps_of(alloc, held)?;
+) -> String {
+    let function = pen.two("{}JsonWriter::{}", nested.names.of.as_str(), append);
+    let steps = steps_of(pen, held);
     let function = (function.as_str(), found(nested));
-    late_answers(alloc, function, &["st_pre"], &steps)
+    late_answers(pen, function, &["st_pre"], &steps)
 }
 
 /// The same of the writer of RON, which writes the name of a variant before its fields.
 pub(crate) fn late_ron_answers(
-    alloc: Global,
+    pen: &Pen,
     nested: &Nested<'_>,
     held: &Held<'_>,
     append: &str,
-) -> Result<String, AllocError> {
-    let function = format!(in alloc; "{}RonWriter::{append}", nested.names.of)?;
-    let calls = calls_of(alloc, held)?;
+) -> String {
+    let function = pen.two("{}RonWriter::{}", nested.names.of.as_str(), append);
+    let calls = calls_of(pen, held);
     let before: &[&str] = if nested.is_enum {
         &["write_unit_variant", "st_pre"]
     } else {
         &["st_pre"]
     };
     let function = (function.as_str(), found(nested));
-    late_answers(alloc, function, before, &calls)
+    late_answers(pen, function, before, &calls)
 }
 
 /// The answers for the steps of a function that fail late, of which the search finds so many: for
 /// fields that are appended by these steps, after those that come before all fields, and for the
 /// bracket after them.
 fn late_answers(
-    alloc: Global,
+    pen: &Pen,
     (function, found): (&str, usize),
     before: &[&str],
     fields: &[String],
-) -> Result<String, AllocError> {
-    let mut answers = String::new(alloc);
+) -> String {
+    let mut answers = pen.empty();
     if fields.len() <= found {
-        return Ok(answers);
+        return answers;
     }
-    let mut done = String::new(alloc);
-    let mut closing = String::new(alloc);
+    let mut done = pen.empty();
+    let mut closing = pen.empty();
     for step in before {
-        pass(alloc, *step, &mut done, &mut closing)?;
+        pass(pen, *step, &mut done, &mut closing);
     }
     for (i, step) in fields.iter().enumerate() {
         if i >= found {
-            let answer = late(alloc, function, step.as_str(), (&done, &closing))?;
-            answers.push_str(answer.as_str())?;
+            let answer = late(pen, function, step.as_str(), (&done, &closing));
+            pen.add(&mut answers, answer.as_str());
         }
-        pass(alloc, step.as_str(), &mut done, &mut closing)?;
+        pass(pen, step.as_str(), &mut done, &mut closing);
     }
-    let mut holes = Holes::new(alloc);
+    let mut holes = Holes::new(pen.alloc());
     holes.put("FUNCTION", function);
     holes.put("DONE", done.as_str());
     holes.put("CLOSING", closing.as_str());
-    answers.push_str(holes.fill(LAST)?.as_str())?;
-    Ok(answers)
+    pen.add(&mut answers, pen.whole(holes.fill(LAST)).as_str());
+    answers
 }
 
 /// Adds a step to those that were taken, with the bracket that closes what is said of it.
-fn pass(
-    alloc: Global,
-    step: &str,
-    done: &mut String,
-    closing: &mut String,
-) -> Result<(), AllocError> {
-    let said = format!(in alloc; "(more_after _ _ _ _ c.in_ok-{step}.ensures.ok\n    ")?;
-    done.push_str(said.as_str())?;
-    closing.push(')')
+fn pass(pen: &Pen, step: &str, done: &mut String, closing: &mut String) {
+    let said = pen.one("(more_after _ _ _ _ c.in_ok-{}.ensures.ok\n    ", step);
+    pen.add(done, said.as_str());
+    pen.add(closing, ")");
 }
 
 /// The answer for a step that fails, after these.
-fn late(
-    alloc: Global,
-    function: &str,
-    step: &str,
-    (done, closing): (&String, &String),
-) -> Result<String, AllocError> {
-    let mut holes = Holes::new(alloc);
+fn late(pen: &Pen, function: &str, step: &str, (done, closing): (&String, &String)) -> String {
+    let mut holes = Holes::new(pen.alloc());
     holes.put("FUNCTION", function);
     holes.put("STEP", step);
     holes.put("DONE", done.as_str());
     holes.put("CLOSING", closing.as_str());
-    holes.fill(LATE)
+    pen.whole(holes.fill(LATE))
 }
 
 const LATE: &str = "

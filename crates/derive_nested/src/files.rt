@@ -15,11 +15,12 @@ use crate::nested::counted_in;
 use crate::ron_cited::RON as RON_CITED;
 use crate::text_cited::{JSON as JSON_CITED, TEXTS};
 use crate::text_codec::{JSON, RON, TextTerms};
+use derive_pen::Pen;
 use derive_syntax::{
     Cycle, Definition, DeriveError, Fault, Source, check_source, codecs_name, error_of, source_of,
     text_above, tokens_of,
 };
-use std::alloc::{AllocError, Global};
+use std::alloc::Global;
 
 /// A folder of a crate, beside its sources.
 #[derive(Clone, Copy, PartialEq)]
@@ -68,26 +69,27 @@ pub fn nested_files(
 ) -> Result<Vec<NestedFile>, DeriveError>
     ensures error { IfErr result (IsErrorIn source.now) }
 {
-    match files(alloc, module, source) {
+    let pen = Pen::new(alloc);
+    match files(&pen, module, source) {
         Ok(files) => Ok(files),
         Err(fault) => Err(error_of(alloc, source, fault)),
     }
 }
 
 /// The files for a source.
-fn files(alloc: Global, module: &str, source: &str) -> Result<Vec<NestedFile>, Fault> {
+fn files(pen: &Pen, module: &str, source: &str) -> Result<Vec<NestedFile>, Fault> {
     let above = text_above(source)?;
-    let tokens = tokens_of(alloc, above)?;
-    let source = source_of(alloc, &tokens, above.len())?;
-    check_source(alloc, &source)?;
-    let mut files = Vec::new(alloc);
-    let cycles = cycles_of(alloc, &source)?;
+    let tokens = tokens_of(pen.alloc(), above)?;
+    let source = source_of(pen.alloc(), &tokens, above.len())?;
+    check_source(pen.alloc(), &source)?;
+    let mut files = Vec::new(pen.alloc());
+    let cycles = cycles_of(pen, &source)?;
     if cycles.is_empty() {
         return Ok(files);
     }
-    append_codecs(alloc, module, &source, &cycles, &mut files)?;
+    append_codecs(pen, module, &source, &cycles, &mut files)?;
     append_texts(
-        alloc,
+        pen,
         module,
         &source,
         &cycles,
@@ -95,28 +97,29 @@ fn files(alloc: Global, module: &str, source: &str) -> Result<Vec<NestedFile>, F
         &mut files,
     )?;
     append_texts(
-        alloc,
+        pen,
         module,
         &source,
         &cycles,
         (&RON, &RON_CITED),
         &mut files,
     )?;
-    append_answers(alloc, module, &source, &cycles, &mut files)?;
+    append_answers(pen, module, &source, &cycles, &mut files)?;
+    pen.check()?;
     Ok(files)
 }
 
 /// The types of a source with formats that contain each other, or one that contains itself, in the
 /// order of the first of them.
-fn cycles_of<'a>(alloc: Global, source: &Source<'a>) -> Result<Vec<Cycle<'a>>, Fault> {
-    let mut cycles = Vec::new(alloc);
+fn cycles_of<'a>(pen: &Pen, source: &Source<'a>) -> Result<Vec<Cycle<'a>>, Fault> {
+    let mut cycles = Vec::new(pen.alloc());
     for definition in &source.definitions {
         if definition.attributes.codec.is_none() {
             continue;
         }
-        if let Some(cycle) = source.cycle_of(alloc, definition)? {
+        if let Some(cycle) = source.cycle_of(pen.alloc(), definition)? {
             if is_first(&cycle, definition) {
-                cycles.push(cycle)?;
+                pen.push(&mut cycles, cycle);
             }
         }
     }
@@ -133,88 +136,90 @@ fn is_first<'a>(cycle: &Cycle<'a>, definition: &Definition<'a>) -> bool {
 
 /// Appends the files of what every format has, and of bytes.
 fn append_codecs<'a>(
-    alloc: Global,
+    pen: &Pen,
     module: &str,
     source: &Source<'a>,
     cycles: &[Cycle<'a>],
     files: &mut Vec<NestedFile>,
 ) -> Result<(), Fault> {
-    let name = codecs_name(alloc, module)?;
+    let name = pen.whole(codecs_name(pen.alloc(), module));
     let file = File {
         module,
         name: name.as_str(),
     };
-    let mut specs = Body::new(alloc);
-    let mut proofs = Body::new(alloc);
+    let mut specs = Body::new(pen);
+    let mut proofs = Body::new(pen);
     for cycle in cycles {
-        append_definitions(alloc, file, (source, cycle), &mut specs)?;
-        append_laws(alloc, file, (source, cycle), &mut proofs)?;
+        append_definitions(pen, file, (source, cycle), &mut specs)?;
+        append_laws(pen, file, (source, cycle), &mut proofs)?;
     }
     let tables: [&[Known]; 2] = [&SHARED, &BYTES];
-    files.push(specs_file(alloc, name.as_str(), &specs, &tables)?)?;
-    files.push(proofs_file(alloc, name.as_str(), &proofs, &tables)?)?;
+    pen.push(files, specs_file(pen, name.as_str(), &specs, &tables));
+    pen.push(files, proofs_file(pen, name.as_str(), &proofs, &tables));
     Ok(())
 }
 
 /// Appends the files of a format of texts, which cite these modules, if one of the types has it.
 fn append_texts<'a>(
-    alloc: Global,
+    pen: &Pen,
     module: &str,
     source: &Source<'a>,
     cycles: &[Cycle<'a>],
     (format, cited): (&TextTerms, &[Known]),
     files: &mut Vec<NestedFile>,
 ) -> Result<(), Fault> {
-    let name = text_codecs_name(alloc, module, format)?;
+    let name = text_codecs_name(pen, module, format);
     let file = File {
         module,
         name: name.as_str(),
     };
-    let mut specs = Body::new(alloc);
-    let mut proofs = Body::new(alloc);
+    let mut specs = Body::new(pen);
+    let mut proofs = Body::new(pen);
     for cycle in cycles {
-        append_text_definitions(alloc, file, (source, cycle, format), &mut specs)?;
-        append_text_laws(alloc, file, (source, cycle, format), &mut proofs)?;
+        append_text_definitions(pen, file, (source, cycle, format), &mut specs)?;
+        append_text_laws(pen, file, (source, cycle, format), &mut proofs)?;
     }
     if specs.text.is_empty() {
         return Ok(());
     }
     let tables: [&[Known]; 3] = [&SHARED, &TEXTS, cited];
-    files.push(specs_file(alloc, name.as_str(), &specs, &tables)?)?;
-    files.push(proofs_file(alloc, name.as_str(), &proofs, &tables)?)?;
+    pen.push(files, specs_file(pen, name.as_str(), &specs, &tables));
+    pen.push(files, proofs_file(pen, name.as_str(), &proofs, &tables));
     Ok(())
 }
 
 /// A file of definitions.
-fn specs_file(
-    alloc: Global,
-    name: &str,
-    body: &Body,
-    tables: &[&[Known]],
-) -> Result<NestedFile, AllocError> {
-    let brought = imports(alloc, body.text.as_str(), tables)?;
-    Ok(NestedFile {
+fn specs_file(pen: &Pen, name: &str, body: &Body, tables: &[&[Known]]) -> NestedFile {
+    let brought = imports(pen, body.text.as_str(), tables);
+    NestedFile {
         folder: Folder::Specs,
-        path: format!(in alloc; "{name}.antt")?,
-        declared: Some(format!(in alloc; "pub mod {name}")?),
-        text: format!(in alloc; "{DEFINITIONS}{brought}{}{}", body.brought, body.text)?,
-    })
+        path: pen.one("{}.antt", name),
+        declared: Some(pen.one("pub mod {}", name)),
+        text: pen.four(
+            "{}{}{}{}",
+            DEFINITIONS,
+            brought.as_str(),
+            body.brought.as_str(),
+            body.text.as_str(),
+        ),
+    }
 }
 
 /// A file of laws.
-fn proofs_file(
-    alloc: Global,
-    name: &str,
-    body: &Body,
-    tables: &[&[Known]],
-) -> Result<NestedFile, AllocError> {
-    let brought = imports(alloc, body.text.as_str(), tables)?;
-    Ok(NestedFile {
+fn proofs_file(pen: &Pen, name: &str, body: &Body, tables: &[&[Known]]) -> NestedFile {
+    let brought = imports(pen, body.text.as_str(), tables);
+    NestedFile {
         folder: Folder::Proofs,
-        path: format!(in alloc; "{name}Laws.antt")?,
-        declared: Some(format!(in alloc; "mod {name}Laws")?),
-        text: format!(in alloc; "{LAWS}{brought}{}{}", body.brought, body.text)?,
-    })
+        path: pen.one("{}Laws.antt", name),
+        declared: Some(pen.one("mod {}Laws", name)),
+        text: pen.four(
+            "{}{}{}{}",
+            LAWS,
+            brought.as_str(),
+            body.brought.as_str(),
+            body.text.as_str(),
+        ),
+    }
 }
 
 const DEFINITIONS: &str =
@@ -224,7 +229,7 @@ const LAWS: &str = "-- Written by derive_files: what is proved of types that con
 
 /// Appends the files of the answers to what is to be proved of the impls of types.
 fn append_answers<'a>(
-    alloc: Global,
+    pen: &Pen,
     module: &str,
     source: &Source<'a>,
     cycles: &[Cycle<'a>],
@@ -234,14 +239,17 @@ fn append_answers<'a>(
         let Some(attributes) = counted_in(source, cycle) else {
             continue;
         };
-        let members = nested_members(alloc, source, cycle, false)?;
-        for Answers { path, text } in answers_of(alloc, module, &members, attributes)? {
-            files.push(NestedFile {
-                folder: Folder::Proofs,
-                path,
-                declared: None,
-                text,
-            })?;
+        let members = nested_members(pen, source, cycle, false)?;
+        for Answers { path, text } in answers_of(pen, module, &members, attributes) {
+            pen.push(
+                files,
+                NestedFile {
+                    folder: Folder::Proofs,
+                    path,
+                    declared: None,
+                    text,
+                },
+            );
         }
     }
     Ok(())

@@ -2,8 +2,8 @@
 
 use crate::brought::text_codecs_name;
 use crate::text_codec::{JSON, RON, TextTerms};
+use derive_pen::Pen;
 use derive_syntax::{Attributes, codecs_name};
-use std::alloc::{AllocError, Global};
 
 /// Whether a type has a format of texts.
 pub(crate) fn has_text(attributes: Attributes<'_>, format: &TextTerms) -> bool {
@@ -32,14 +32,10 @@ pub(crate) fn has_several(attributes: Attributes<'_>) -> bool {
 }
 
 /// The name of the file of definitions for the first format of a type in a module.
-pub(crate) fn first_codecs_name(
-    alloc: Global,
-    module: &str,
-    attributes: Attributes<'_>,
-) -> Result<String, AllocError> {
+pub(crate) fn first_codecs_name(pen: &Pen, module: &str, attributes: Attributes<'_>) -> String {
     if attributes.bin.is_used() {
-        return codecs_name(alloc, module);
+        return pen.whole(codecs_name(pen.alloc(), module));
     }
     let first = if attributes.json.is_used() { JSON } else { RON };
-    text_codecs_name(alloc, module, &first)
+    text_codecs_name(pen, module, &first)
 }

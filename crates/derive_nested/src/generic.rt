@@ -6,29 +6,29 @@ use crate::generic_heads::headed;
 use crate::nested::Nested;
 use crate::parameters::{Speech, coded_by, words_of};
 use crate::words::{Words, defined};
-use std::alloc::{AllocError, Global};
+use derive_pen::Pen;
 
 /// The definitions of a type, or the laws of these, in the format of this name.
 pub(crate) fn with_parameters(
-    alloc: Global,
+    pen: &Pen,
     nested: &Nested<'_>,
     format: &'static str,
     text: String,
-) -> Result<String, AllocError> {
+) -> String {
     if !nested.is_generic() {
-        return Ok(text);
+        return text;
     }
-    let outside = words_of(alloc, nested, Speech::Meanings)?;
-    let mut inside = words_of(alloc, nested, Speech::Codecs(format))?;
-    inside.leave_defined(alloc, text.as_str())?;
-    let mut parts = Parts::new(alloc);
+    let outside = words_of(pen, nested, Speech::Meanings);
+    let mut inside = words_of(pen, nested, Speech::Codecs(format));
+    inside.leave_defined(pen, text.as_str());
+    let mut parts = Parts::new(pen);
     for block in text.split("\n\n") {
         let block = block.trim();
         if !block.is_empty() {
-            parts.add(alloc, nested, (&outside, &inside), block)?;
+            parts.add(pen, nested, (&outside, &inside), block);
         }
     }
-    parts.whole(alloc, nested, format)
+    parts.whole(pen, nested, format)
 }
 
 /// The parts of a text.
@@ -68,22 +68,22 @@ pub(crate) enum Kind {
 }
 
 /// What the definition is of that a text begins with.
-fn kind_of(alloc: Global, nested: &Nested<'_>, name: &str) -> Result<Kind, AllocError> {
+fn kind_of(pen: &Pen, nested: &Nested<'_>, name: &str) -> Kind {
     let snake = nested.names.snake.as_str();
-    let content = format!(in alloc; "{}Content", nested.names.of)?;
+    let content = pen.one("{}Content", nested.names.of.as_str());
     if name == content.as_str() {
-        return Ok(Kind::Content);
+        return Kind::Content;
     }
     let Some(end) = name.strip_prefix(snake) else {
-        return Ok(match name {
+        return match name {
             "" => Kind::Heading,
             "ruleset" => Kind::Laws,
             _ => Kind::Format,
-        });
+        };
     };
-    let alone = words_of(alloc, nested, Speech::Meanings)?;
-    let is_alone = alone.reworded(alloc, name)?.as_str() != name;
-    Ok(match end {
+    let alone = words_of(pen, nested, Speech::Meanings);
+    let is_alone = alone.reworded(pen, name).as_str() != name;
+    match end {
         "_opened" | "_view" | "_depth_step" | "_depth" => Kind::Shape,
         "_means_step" | "_means" => Kind::Means,
         "_step" => Kind::Legal,
@@ -91,7 +91,7 @@ fn kind_of(alloc: Global, nested: &Nested<'_>, name: &str) -> Result<Kind, Alloc
         _ if end.starts_with("_view_") && is_alone => Kind::Alone,
         _ if end.starts_with("_view_") => Kind::Shape,
         _ => Kind::Format,
-    })
+    }
 }
 
 /// The name of what a block defines, after its comments.
@@ -107,91 +107,94 @@ pub(crate) fn name_of(block: &str) -> &str {
 
 impl Parts {
     /// No parts.
-    fn new(alloc: Global) -> Parts {
+    fn new(pen: &Pen) -> Parts {
         Parts {
-            outside: String::new(alloc),
-            inside: String::new(alloc),
-            after: String::new(alloc),
-            waiting: String::new(alloc),
+            outside: pen.empty(),
+            inside: pen.empty(),
+            after: pen.empty(),
+            waiting: pen.empty(),
         }
     }
 
     /// Adds a block, in the words of what stands outside and inside of the module.
     fn add(
         &mut self,
-        alloc: Global,
+        pen: &Pen,
         nested: &Nested<'_>,
         (outside, inside): (&Words, &Words),
         block: &str,
-    ) -> Result<(), AllocError> {
-        let kind = kind_of(alloc, nested, name_of(block))?;
+    ) {
+        let kind = kind_of(pen, nested, name_of(block));
         let text = match kind {
-            Kind::Heading => return append_block(&mut self.waiting, block),
-            Kind::Laws => return append_block(&mut self.after, block),
+            Kind::Heading => return append_block(pen, &mut self.waiting, block),
+            Kind::Laws => return append_block(pen, &mut self.after, block),
             Kind::Format => {
-                let text = reworded(alloc, inside, block)?;
-                append_block(&mut self.inside, self.waiting.as_str())?;
+                let text = reworded(pen, inside, block);
+                append_block(pen, &mut self.inside, self.waiting.as_str());
                 self.waiting.clear();
-                return append_block(&mut self.inside, text.as_str());
+                return append_block(pen, &mut self.inside, text.as_str());
             }
-            _ => headed(alloc, nested, outside, (&kind, block))?,
+            _ => headed(pen, nested, outside, (&kind, block)),
         };
-        append_block(&mut self.outside, self.waiting.as_str())?;
+        append_block(pen, &mut self.outside, self.waiting.as_str());
         self.waiting.clear();
-        append_block(&mut self.outside, text.as_str())
+        append_block(pen, &mut self.outside, text.as_str());
     }
 
     /// The text of these parts.
-    fn whole(self, alloc: Global, nested: &Nested<'_>, format: &str) -> Result<String, AllocError> {
-        let mut text = String::new(alloc);
-        append_block(&mut text, self.outside.as_str())?;
+    fn whole(self, pen: &Pen, nested: &Nested<'_>, format: &str) -> String {
+        let mut text = pen.empty();
+        append_block(pen, &mut text, self.outside.as_str());
         if !self.inside.is_empty() {
             let codecs = nested.of_each(
-                alloc,
+                pen,
                 "($SNAKE_$FORMAT : Codec $NAME)",
                 coded_by(format),
                 " ",
-            )?;
-            let types = nested.types(alloc)?;
-            let head = format!(in alloc; "module _ {{{types} : Type 0}} {codecs} where\n")?;
-            text.push('\n')?;
-            text.push_str(head.as_str())?;
-            append_indented(&mut text, self.inside.as_str())?;
+            );
+            let types = nested.types(pen);
+            let head = pen.two(
+                "module _ {{} : Type 0} {} where\n",
+                types.as_str(),
+                codecs.as_str(),
+            );
+            pen.add(&mut text, "\n");
+            pen.add(&mut text, head.as_str());
+            append_indented(pen, &mut text, self.inside.as_str());
         }
-        append_block(&mut text, self.after.as_str())?;
-        Ok(text)
+        append_block(pen, &mut text, self.after.as_str());
+        text
     }
 }
 
 /// Appends a block after a line that is blank.
-fn append_block(text: &mut String, block: &str) -> Result<(), AllocError> {
+fn append_block(pen: &Pen, text: &mut String, block: &str) {
     let block = block.trim();
     if block.is_empty() {
-        return Ok(());
+        return;
     }
-    text.push('\n')?;
-    text.push_str(block)?;
-    text.push('\n')
+    pen.add(text, "\n");
+    pen.add(text, block);
+    pen.add(text, "\n");
 }
 
 /// Appends the lines of blocks, each further in.
-fn append_indented(text: &mut String, blocks: &str) -> Result<(), AllocError> {
+fn append_indented(pen: &Pen, text: &mut String, blocks: &str) {
     for line in blocks.trim().split('\n') {
         if !line.is_empty() {
-            text.push_str("  ")?;
-            text.push_str(line)?;
+            pen.add(text, "  ");
+            pen.add(text, line);
         }
-        text.push('\n')?;
+        pen.add(text, "\n");
     }
-    Ok(())
 }
 
 /// The lines of a block in other words.
-fn reworded(alloc: Global, words: &Words, block: &str) -> Result<String, AllocError> {
-    let mut text = String::new(alloc);
+fn reworded(pen: &Pen, words: &Words, block: &str) -> String {
+    let mut text = pen.empty();
     for line in block.split('\n') {
-        text.push_str(words.reworded(alloc, line)?.as_str())?;
-        text.push('\n')?;
+        pen.add(&mut text, words.reworded(pen, line).as_str());
+        pen.add(&mut text, "\n");
     }
-    Ok(text)
+    text
 }

@@ -3,38 +3,38 @@
 use crate::nested::Nested;
 use crate::parameters::{Speech, words_of};
 use crate::words::Words;
-use std::alloc::{AllocError, Global};
+use derive_pen::Pen;
 
 /// The answers for a type, in the format of this name: each takes what is known of the parameters.
 pub(crate) fn with_goals(
-    alloc: Global,
+    pen: &Pen,
     nested: &Nested<'_>,
     format: &'static str,
     text: String,
-) -> Result<String, AllocError> {
+) -> String {
     if !nested.is_generic() {
-        return Ok(text);
+        return text;
     }
-    let words = words_of(alloc, nested, Speech::Goals(format))?;
-    let mut answers = String::new(alloc);
+    let words = words_of(pen, nested, Speech::Goals(format));
+    let mut answers = pen.empty();
     for (i, line) in text.as_str().split('\n').enumerate() {
-        answers.push_str(if i > 0 { "\n" } else { "" })?;
-        answers.push_str(answer_line(alloc, &words, line)?.as_str())?;
+        pen.add(&mut answers, if i > 0 { "\n" } else { "" });
+        pen.add(&mut answers, answer_line(pen, &words, line).as_str());
     }
-    Ok(answers)
+    answers
 }
 
 /// A line of an answer.
-fn answer_line(alloc: Global, words: &Words, line: &str) -> Result<String, AllocError> {
+fn answer_line(pen: &Pen, words: &Words, line: &str) -> String {
     if line.starts_with("pub ") {
-        return String::from_str(alloc, line);
+        return pen.copy(line);
     }
     for given in [" t c =", " c ="] {
         if let Some((name, rest)) = line.split_once(given) {
             if !name.contains(' ') {
-                return format!(in alloc; "{name} g{given}{}", words.reworded(alloc, rest)?);
+                return pen.three("{} g{}{}", name, given, words.reworded(pen, rest).as_str());
             }
         }
     }
-    words.reworded(alloc, line)
+    words.reworded(pen, line)
 }

@@ -5,86 +5,89 @@ use crate::generic::{Kind, name_of};
 use crate::nested::Nested;
 use crate::parameters::coded_by;
 use crate::words::{Words, defined};
-use std::alloc::{AllocError, Global};
+use derive_pen::Pen;
 
 /// What a definition outside of the module takes before all else: in its type, and in each
 /// equation.
-fn taken(alloc: Global, nested: &Nested<'_>, kind: &Kind) -> Result<(String, String), AllocError> {
-    let types = nested.types(alloc)?;
+fn taken(pen: &Pen, nested: &Nested<'_>, kind: &Kind) -> (String, String) {
+    let types = nested.types(pen);
     let none = coded_by("");
-    let given = nested.of_each(alloc, "{$NAME}", none, " ")?;
-    Ok(match kind {
+    let given = nested.of_each(pen, "{$NAME}", none, " ");
+    match kind {
         Kind::Content => (
-            nested.of_each(alloc, "Type 0 → ", none, "")?,
-            format!(in alloc; " {types}")?,
+            nested.of_each(pen, "Type 0 → ", none, ""),
+            pen.one(" {}", types.as_str()),
         ),
         Kind::Shape => (
-            format!(in alloc; "{{{types} : Type 0}} → ")?,
-            format!(in alloc; " {given}")?,
+            pen.one("{{} : Type 0} → ", types.as_str()),
+            pen.one(" {}", given.as_str()),
         ),
         Kind::Alone => (
-            format!(in alloc; "({types} : Type 0) → ")?,
-            format!(in alloc; " {types}")?,
+            pen.one("({} : Type 0) → ", types.as_str()),
+            pen.one(" {}", types.as_str()),
         ),
         Kind::Means => {
-            let means = nested.of_each(alloc, "($NAME → Meaning) → ", none, "")?;
-            let names = nested.of_each(alloc, "$SNAKE_means", none, " ")?;
+            let means = nested.of_each(pen, "($NAME → Meaning) → ", none, "");
+            let names = nested.of_each(pen, "$SNAKE_means", none, " ");
             (
-                format!(in alloc; "{{{types} : Type 0}} → {means}")?,
-                format!(in alloc; " {given} {names}")?,
+                pen.two("{{} : Type 0} → {}", types.as_str(), means.as_str()),
+                pen.two(" {} {}", given.as_str(), names.as_str()),
             )
         }
         Kind::Legal => (
-            nested.of_each(alloc, "(Meaning → Type 0) → ", none, "")?,
-            format!(in alloc; " {}", nested.of_each(alloc, "$SNAKE_legal", none, " ")?)?,
+            nested.of_each(pen, "(Meaning → Type 0) → ", none, ""),
+            pen.one(
+                " {}",
+                nested.of_each(pen, "$SNAKE_legal", none, " ").as_str(),
+            ),
         ),
-        _ => (String::new(alloc), String::new(alloc)),
-    })
+        _ => (pen.empty(), pen.empty()),
+    }
 }
 
 /// A definition outside of the module: what it takes stands before all else, in its type, and in
 /// each equation.
 pub(crate) fn headed(
-    alloc: Global,
+    pen: &Pen,
     nested: &Nested<'_>,
     words: &Words,
     (kind, block): (&Kind, &str),
-) -> Result<String, AllocError> {
-    let (name, (of, given)) = (name_of(block), taken(alloc, nested, kind)?);
-    let mut text = String::new(alloc);
+) -> String {
+    let (name, (of, given)) = (name_of(block), taken(pen, nested, kind));
+    let mut text = pen.empty();
     for line in block.split('\n') {
         let rest = defined(line);
         let before = line.strip_suffix(rest).unwrap_or("");
         let line = match rest.strip_prefix(name) {
             Some(after) => match after.strip_prefix(" : ") {
                 Some(type_of) => {
-                    let type_of = seen_by(alloc, nested, kind, type_of)?;
-                    let type_of = words.reworded(alloc, type_of.as_str())?;
-                    format!(in alloc; "{before}{name} : {of}{type_of}")?
+                    let type_of = seen_by(pen, nested, kind, type_of);
+                    let type_of = words.reworded(pen, type_of.as_str());
+                    pen.four("{}{} : {}{}", before, name, of.as_str(), type_of.as_str())
                 }
-                None => format!(in alloc; "{name}{given}{}", words.reworded(alloc, after)?)?,
+                None => pen.three(
+                    "{}{}{}",
+                    name,
+                    given.as_str(),
+                    words.reworded(pen, after).as_str(),
+                ),
             },
-            None => words.reworded(alloc, line)?,
+            None => words.reworded(pen, line),
         };
-        text.push_str(line.as_str())?;
-        text.push('\n')?;
+        pen.add(&mut text, line.as_str());
+        pen.add(&mut text, "\n");
     }
-    Ok(text)
+    text
 }
 
 /// The type of a law: what a variant with no content is seen as, is said with the parameters.
-fn seen_by(
-    alloc: Global,
-    nested: &Nested<'_>,
-    kind: &Kind,
-    type_of: &str,
-) -> Result<String, AllocError> {
-    let view = format!(in alloc; "{}_view ", nested.names.snake)?;
+fn seen_by(pen: &Pen, nested: &Nested<'_>, kind: &Kind, type_of: &str) -> String {
+    let view = pen.one("{}_view ", nested.names.snake.as_str());
     match (kind, type_of.strip_prefix(view.as_str())) {
         (Kind::Alone, Some(rest)) => {
-            let given = nested.of_each(alloc, "{$NAME = $NAME}", coded_by(""), " ")?;
-            format!(in alloc; "{view}{given} {rest}")
+            let given = nested.of_each(pen, "{$NAME = $NAME}", coded_by(""), " ");
+            pen.three("{}{} {}", view.as_str(), given.as_str(), rest)
         }
-        _ => String::from_str(alloc, type_of),
+        _ => pen.copy(type_of),
     }
 }

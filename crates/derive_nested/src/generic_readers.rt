@@ -5,30 +5,34 @@ use crate::answers::{Answers, HEAD, Place};
 use crate::nested::Nested;
 use crate::parameters::{Format, coded_by};
 use crate::text_codec::TextTerms;
-use std::alloc::{AllocError, Global};
+use derive_pen::Pen;
 
 /// The answers for the reader of a type with parameters in a format of texts, if another format
 /// comes before it.
 pub(crate) fn later_reader(
-    alloc: Global,
+    pen: &Pen,
     nested: &Nested<'_>,
     format: &TextTerms,
     (first, place): (Format, &Place<'_>),
-) -> Result<Option<Answers>, AllocError> {
+) -> Option<Answers> {
     if !nested.is_generic() || first.name == format.name {
-        return Ok(None);
+        return None;
     }
     let own = coded_by(format.name);
-    let mut paths = String::new(alloc);
+    let mut paths = pen.empty();
     for names in &nested.parameters {
         let (name, here, there) = (names.of.as_str(), own.of, first.of);
-        let path = format!(in alloc;
-            " ((between g.met.{name}.{there}.agrees g.met.{name}.{here}.agrees).means_is i)"
-        )?;
-        paths.push_str(path.as_str())?;
+        let path = pen.four(
+            " ((between g.met.{}.{}.agrees g.met.{}.{}.agrees).means_is i)",
+            name,
+            there,
+            name,
+            here,
+        );
+        pen.add(&mut paths, path.as_str());
     }
     let name = nested.names.of.as_str();
-    let mut holes = nested.holes(alloc);
+    let mut holes = nested.holes(pen);
     holes.put("HEAD", HEAD);
     holes.put("LIBRARY", place.library);
     holes.put("STEM", place.stem.as_str());
@@ -37,10 +41,10 @@ pub(crate) fn later_reader(
     holes.put("GOALS", place.goals.as_str());
     holes.put("PATHS", paths.as_str());
     let (folder, word, end) = (place.folder.as_str(), format.word, format.name);
-    Ok(Some(Answers {
-        path: format!(in alloc; "{folder}/{name}De{word}/de_{end}/Answers.antt")?,
-        text: holes.fill(READER)?,
-    }))
+    Some(Answers {
+        path: pen.four("{}/{}De{}/de_{}/Answers.antt", folder, name, word, end),
+        text: pen.whole(holes.fill(READER)),
+    })
 }
 
 const READER: &str = "\

@@ -1,6 +1,6 @@
 //! What a file of definitions or laws brings in: each name that stands in it, once.
 
-use std::alloc::{AllocError, Global};
+use derive_pen::Pen;
 
 /// A module, and names of it: each is brought in where it stands in a text. One that begins with a
 /// hole is an operator, which stands without its holes.
@@ -10,32 +10,28 @@ pub(crate) struct Known {
 }
 
 /// The lines that bring in what stands in a text.
-pub(crate) fn imports(
-    alloc: Global,
-    text: &str,
-    tables: &[&[Known]],
-) -> Result<String, AllocError> {
-    let mut words: Vec<&str> = Vec::new(alloc);
+pub(crate) fn imports(pen: &Pen, text: &str, tables: &[&[Known]]) -> String {
+    let mut words: Vec<&str> = Vec::new(pen.alloc());
     for word in text.split(is_between) {
         let (word, _field) = word.split_once('.').unwrap_or((word, ""));
-        words.push(word)?;
+        pen.push(&mut words, word);
     }
-    words.sort()?;
+    pen.sort(&mut words);
     words.dedup();
-    let mut lines = String::new(alloc);
+    let mut lines = pen.empty();
     for table in tables {
-        lines.push_str(imported(alloc, table, &words)?.as_str())?;
+        pen.add(&mut lines, imported(pen, table, &words).as_str());
     }
-    Ok(lines)
+    lines
 }
 
 /// The lines that bring in the names of a table that are among these words.
-fn imported(alloc: Global, table: &[Known], words: &[&str]) -> Result<String, AllocError> {
-    let mut lines = String::new(alloc);
+fn imported(pen: &Pen, table: &[Known], words: &[&str]) -> String {
+    let mut lines = pen.empty();
     for known in table {
-        lines.push_str(import(alloc, known, words)?.as_str())?;
+        pen.add(&mut lines, import(pen, known, words).as_str());
     }
-    Ok(lines)
+    lines
 }
 
 /// Whether a character stands between the words of a text.
@@ -44,18 +40,18 @@ fn is_between(c: char) -> bool {
 }
 
 /// The line that brings in the names of a module that are among these words, if there are any.
-fn import(alloc: Global, known: &Known, words: &[&str]) -> Result<String, AllocError> {
-    let mut names = String::new(alloc);
+fn import(pen: &Pen, known: &Known, words: &[&str]) -> String {
+    let mut names = pen.empty();
     for name in known.names {
         if words.contains(&word_of(*name)) {
-            names.push_str(if names.is_empty() { "" } else { ", " })?;
-            names.push_str(*name)?;
+            pen.add_between(&mut names, ", ");
+            pen.add(&mut names, *name);
         }
     }
     if names.is_empty() {
-        return Ok(names);
+        return names;
     }
-    format!(in alloc; "use Rattle.{}.{{{names}}}\n", known.module)
+    pen.two("use Rattle.{}.{{}}\n", known.module, names.as_str())
 }
 
 /// A name as it stands in a text: the one that another is brought in as, or an operator without the

@@ -3,6 +3,7 @@
 
 use crate::answers::{Answers, HEAD, Place};
 use crate::brought::content_names;
+use crate::cycle::snake_of;
 use crate::failed_steps::{late_json_answers, lemmas};
 use crate::held::Held;
 use crate::json_rows::{Appended, fields_proof};
@@ -10,57 +11,64 @@ use crate::nested::Nested;
 use crate::text_codec::JSON;
 use crate::text_fields::{field_name, has_contents, has_long_row};
 use crate::text_layers::content_name;
-use derive_syntax::{Case, Holes};
-use std::alloc::{AllocError, Global};
+use derive_pen::Pen;
+use derive_syntax::Holes;
 
 /// The answers for what writes structs in JSON, and the variants with named fields of enums, of
 /// types that contain each other or of one that contains itself, if there are such.
-pub(crate) fn json_writer(
-    alloc: Global,
-    members: &[Nested<'_>],
-    place: &Place<'_>,
-) -> Result<Option<Answers>, AllocError> {
-    let mut answers = String::new(alloc);
-    let mut cited = String::new(alloc);
-    let mut specs = String::new(alloc);
-    for nested in members {
-        cited.push_str(cited_laws(alloc, nested)?.as_str())?;
-        specs.push_str(cited_definitions(alloc, nested, place)?.as_str())?;
-        for held in &nested.contents {
-            answers.push_str(answered(alloc, nested, held)?.as_str())?;
-        }
-    }
+pub(crate) fn json_writer(pen: &Pen, members: &[Nested<'_>], place: &Place<'_>) -> Option<Answers> {
+    let answers = all_answered(pen, members);
     let (Some(nested), false) = (members.first(), answers.is_empty()) else {
-        return Ok(None);
+        return None;
     };
     let (folder, snake) = (place.folder.as_str(), nested.root().snake.as_str());
-    let mut holes = nested.all_holes(alloc)?;
+    let mut holes = nested.all_holes(pen);
     holes.put("HEAD", HEAD);
     holes.put("LIBRARY", place.library);
     holes.put("STEM", place.stem.as_str());
     holes.put("BESIDE", beside(members));
-    holes.put(
-        "CITED",
-        cited.as_str().strip_prefix(", ").unwrap_or(cited.as_str()),
-    );
-    holes.put("SPECS", specs.as_str());
+    put_cited(&mut holes, pen, members, place);
     holes.put("GOALS", place.goals.as_str());
     holes.put("LEMMAS", lemmas(members));
     holes.put("ANSWERS", answers.as_str());
-    Ok(Some(Answers {
-        path: format!(in alloc; "{folder}/+write_{snake}_json/Answers.antt")?,
-        text: holes.fill(WRITTEN_TEXT)?,
-    }))
+    Some(Answers {
+        path: pen.two("{}/+write_{}_json/Answers.antt", folder, snake),
+        text: pen.whole(holes.fill(WRITTEN_TEXT)),
+    })
+}
+
+/// The answers for all of these types.
+fn all_answered(pen: &Pen, members: &[Nested<'_>]) -> String {
+    let mut answers = pen.empty();
+    for nested in members {
+        for held in &nested.contents {
+            pen.add(&mut answers, answered(pen, nested, held).as_str());
+        }
+    }
+    answers
+}
+
+/// Puts what the answers for these types cite: laws, and definitions.
+fn put_cited(holes: &mut Holes, pen: &Pen, members: &[Nested<'_>], place: &Place<'_>) {
+    let mut cited = pen.empty();
+    let mut specs = pen.empty();
+    for nested in members {
+        pen.add(&mut cited, cited_laws(pen, nested).as_str());
+        pen.add(&mut specs, cited_definitions(pen, nested, place).as_str());
+    }
+    let names = cited.as_str().strip_prefix(", ").unwrap_or(cited.as_str());
+    holes.put("CITED", names);
+    holes.put("SPECS", specs.as_str());
 }
 
 /// The answers for what writes a struct, or a variant with named fields.
-fn answered(alloc: Global, nested: &Nested<'_>, held: &Held<'_>) -> Result<String, AllocError> {
+fn answered(pen: &Pen, nested: &Nested<'_>, held: &Held<'_>) -> String {
     if !nested.is_enum {
-        struct_answers(alloc, nested, held)
+        struct_answers(pen, nested, held)
     } else if held.has_fields {
-        variant_answers(alloc, nested, held)
+        variant_answers(pen, nested, held)
     } else {
-        Ok(String::new(alloc))
+        pen.empty()
     }
 }
 
@@ -78,38 +86,37 @@ $SPECSuse $GOALS.+write_$BASE_json.Goals as goal
 $LEMMAS$ANSWERS";
 
 /// The lines that bring in the definitions that the answers for variants cite, if a type has such.
-fn cited_definitions(
-    alloc: Global,
-    nested: &Nested<'_>,
-    place: &Place<'_>,
-) -> Result<String, AllocError> {
+fn cited_definitions(pen: &Pen, nested: &Nested<'_>, place: &Place<'_>) -> String {
     if !has_contents(nested) {
-        return Ok(String::new(alloc));
+        return pen.empty();
     }
     let (library, stem) = (place.library, place.stem.as_str());
-    let contents = content_names(alloc, nested, &JSON)?;
-    format!(in alloc;
-        "use Rattle.std.specs.Prelude.{{codes}}
-use Rattle.nano_json_tokens.specs.Written.{{written_text}}
-use Rattle.{library}.specs.{stem}JsonCodecs.{{{}_json{contents}}}
+    let contents = content_names(pen, nested, &JSON);
+    pen.four(
+        "use Rattle.std.specs.Prelude.{codes}
+use Rattle.nano_json_tokens.specs.Written.{written_text}
+use Rattle.{}.specs.{}JsonCodecs.{{}_json{}}
 ",
-        nested.root().snake
+        library,
+        stem,
+        nested.root().snake.as_str(),
+        contents.as_str(),
     )
 }
 
 /// The names of what the answers cite of the laws of a type, each after a comma.
-fn cited_laws(alloc: Global, nested: &Nested<'_>) -> Result<String, AllocError> {
+fn cited_laws(pen: &Pen, nested: &Nested<'_>) -> String {
     let mut names = if nested.is_enum || nested.is_around() {
-        String::new(alloc)
+        pen.empty()
     } else {
-        format!(in alloc; ", {}_json_text", nested.names.snake)?
+        pen.one(", {}_json_text", nested.names.snake.as_str())
     };
     for held in &nested.contents {
         if held.has_fields {
-            names.push_str(cited_fields(alloc, nested, held)?.as_str())?;
+            pen.add(&mut names, cited_fields(pen, nested, held).as_str());
         }
     }
-    Ok(names)
+    names
 }
 
 /// The names of the laws of all types that the answers cite, after another one.
@@ -129,21 +136,21 @@ fn beside(members: &[Nested<'_>]) -> &'static str {
 }
 
 /// The names of the definitions of what each field is written as, each after a comma.
-fn cited_fields(alloc: Global, nested: &Nested<'_>, held: &Held<'_>) -> Result<String, AllocError> {
-    let mut names = String::new(alloc);
+fn cited_fields(pen: &Pen, nested: &Nested<'_>, held: &Held<'_>) -> String {
+    let mut names = pen.empty();
     for called in &held.called {
-        let name = field_name(alloc, nested, &JSON, (held, called.as_str()))?;
-        names.push_str(format!(in alloc; ", {name}")?.as_str())?;
+        let name = field_name(pen, nested, &JSON, (held, called.as_str()));
+        pen.add(&mut names, pen.one(", {}", name.as_str()).as_str());
     }
-    Ok(names)
+    names
 }
 
 /// That nothing is left of what is not written whole, by this function, in this call.
-fn rollback(alloc: Global, function: &str, call: &str) -> Result<String, AllocError> {
-    let mut holes = Holes::new(alloc);
+fn rollback(pen: &Pen, function: &str, call: &str) -> String {
+    let mut holes = Holes::new(pen.alloc());
     holes.put("FUNCTION", function);
     holes.put("CALL", call);
-    holes.fill(ROLLBACK)
+    pen.whole(holes.fill(ROLLBACK))
 }
 
 const ROLLBACK: &str = "
@@ -156,51 +163,45 @@ $FUNCTION-rollback_on_error-requires t c =
 ";
 
 /// What the fields append between braces, as a ghost term of this many levels.
-fn between(alloc: Global, row: &Appended, inside: &str) -> Result<String, AllocError> {
-    format!(in alloc;
+fn between(pen: &Pen, row: &Appended, inside: &str) -> String {
+    pen.two(
         "(on_ok_weaker c.st_post.result
     (written_between c.args.d inner {} before opened
-    {inside} (string_bytes c.st_post.new.self.out) c.saturating_add-inner.ensures
+    {} (string_bytes c.st_post.new.self.out) c.saturating_add-inner.ensures
     c.in_ok-st_pre.ensures.ok row) c.st_post.ensures.ok)",
-        row.fields
+        row.fields.as_str(),
+        inside,
     )
 }
 
 /// What the answers for fields begin with.
-fn opening(alloc: Global, row: &Appended) -> Result<String, AllocError> {
-    format!(in alloc;
+fn opening(pen: &Pen, row: &Appended) -> String {
+    pen.one(
         "    let inner = c.saturating_add-inner.result in
     let before = string_bytes c.args.s.now.out in
     let opened = string_bytes c.st_pre.new.self.out in
     let row =
     {} in",
-        row.ok
+        row.ok.as_str(),
     )
 }
 
 /// The answers for what writes a struct.
-fn struct_answers(
-    alloc: Global,
-    nested: &Nested<'_>,
-    held: &Held<'_>,
-) -> Result<String, AllocError> {
+fn struct_answers(pen: &Pen, nested: &Nested<'_>, held: &Held<'_>) -> String {
     let name = nested.names.of.as_str();
-    let function = format!(in alloc; "{name}WritesJson::write_json")?;
-    let rollback = rollback(alloc, function.as_str(), "append_record")?;
-    let (row, inside) = fields_proof(alloc, nested, held)?;
-    let (opening, between) = (
-        opening(alloc, &row)?,
-        between(alloc, &row, inside.as_str())?,
-    );
-    let late = late_json_answers(alloc, nested, held, "append_record")?;
-    let mut holes = nested.holes(alloc);
-    let law = holes.fill(if nested.is_around() { "" } else { BY_LAW })?;
+    let function = pen.one("{}WritesJson::write_json", name);
+    let rollback = rollback(pen, function.as_str(), "append_record");
+    let (row, inside) = fields_proof(pen, nested, held);
+    let (opening, between) = (opening(pen, &row), between(pen, &row, inside.as_str()));
+    let late = late_json_answers(pen, nested, held, "append_record");
+    let mut holes = nested.holes(pen);
+    let law = pen.whole(holes.fill(if nested.is_around() { "" } else { BY_LAW }));
     holes.put("LATE", late.as_str());
     holes.put("ROLLBACK", rollback.as_str());
     holes.put("OPENING", opening.as_str());
     holes.put("LAW", law.as_str());
     holes.put("BETWEEN", between.as_str());
-    holes.fill(STRUCT_ANSWERS)
+    pen.whole(holes.fill(STRUCT_ANSWERS))
 }
 
 // What a type around the root is written as is seen by computing.
@@ -217,32 +218,25 @@ $OPENING
 $LATE";
 
 /// The answers for what writes a variant with named fields.
-fn variant_answers(
-    alloc: Global,
-    nested: &Nested<'_>,
-    held: &Held<'_>,
-) -> Result<String, AllocError> {
+fn variant_answers(pen: &Pen, nested: &Nested<'_>, held: &Held<'_>) -> String {
     let name = nested.names.of.as_str();
-    let end = Case::Snake.of_variant(alloc, held.name.as_str())?;
-    let append = format!(in alloc; "append_{end}")?;
-    let function = format!(in alloc; "{name}JsonWriter::write_{end}")?;
-    let rollback = rollback(alloc, function.as_str(), append.as_str())?;
-    let (row, inside) = fields_proof(alloc, nested, held)?;
-    let (opening, between) = (
-        opening(alloc, &row)?,
-        between(alloc, &row, inside.as_str())?,
-    );
-    let content = content_answer(alloc, nested, held, append.as_str())?;
-    let fields = format!(in alloc; "{append}_fields")?;
-    let late = late_json_answers(alloc, nested, held, fields.as_str())?;
-    let mut holes = nested.holes(alloc);
+    let end = snake_of(pen, held.name.as_str());
+    let append = pen.one("append_{}", end.as_str());
+    let function = pen.two("{}JsonWriter::write_{}", name, end.as_str());
+    let rollback = rollback(pen, function.as_str(), append.as_str());
+    let (row, inside) = fields_proof(pen, nested, held);
+    let (opening, between) = (opening(pen, &row), between(pen, &row, inside.as_str()));
+    let content = content_answer(pen, nested, held, append.as_str());
+    let fields = pen.one("{}_fields", append.as_str());
+    let late = late_json_answers(pen, nested, held, fields.as_str());
+    let mut holes = nested.holes(pen);
     holes.put("ROLLBACK", rollback.as_str());
     holes.put("APPEND", append.as_str());
     holes.put("OPENING", opening.as_str());
     holes.put("BETWEEN", between.as_str());
     holes.put("CONTENT", content.as_str());
     holes.put("LATE", late.as_str());
-    holes.fill(VARIANT_ANSWERS)
+    pen.whole(holes.fill(VARIANT_ANSWERS))
 }
 
 const VARIANT_ANSWERS: &str = "$ROLLBACK
@@ -254,21 +248,16 @@ $OPENING
 $LATE$CONTENT";
 
 /// The answer for the function that appends a variant with named fields: its name, and the fields.
-fn content_answer(
-    alloc: Global,
-    nested: &Nested<'_>,
-    held: &Held<'_>,
-    append: &str,
-) -> Result<String, AllocError> {
+fn content_answer(pen: &Pen, nested: &Nested<'_>, held: &Held<'_>, append: &str) -> String {
     let snake = nested.names.snake.as_str();
-    let content = content_name(alloc, &JSON, snake, held)?;
-    let (key, values) = (held.key.as_str(), arguments(alloc, 0, held.leaves.len())?);
-    let mut holes = nested.all_holes(alloc)?;
+    let content = content_name(pen, &JSON, snake, held);
+    let (key, values) = (held.key.as_str(), arguments(pen, 0, held.leaves.len()));
+    let mut holes = nested.all_holes(pen);
     holes.put("APPEND", append);
     holes.put("KEY", key);
     holes.put("CONTENT", content.as_str());
     holes.put("VALUES", values.as_str());
-    holes.fill(CONTENT_ANSWER)
+    pen.whole(holes.fill(CONTENT_ANSWER))
 }
 
 const CONTENT_ANSWER: &str = "
@@ -285,13 +274,13 @@ $NAMEJsonWriter::$APPEND-returns-clause-ok t c =
 ";
 
 /// The values of the fields from one place up to another, as nested pairs of arguments.
-fn arguments(alloc: Global, from: usize, end: usize) -> Result<String, AllocError> {
+fn arguments(pen: &Pen, from: usize, end: usize) -> String {
     let count = end.saturating_sub(from);
     if count < 2 {
-        return format!(in alloc; "c.args.v{from}.now");
+        return pen.one("c.args.v{}.now", pen.number(from).as_str());
     }
     let middle = from.saturating_add(count / 2);
-    let one = arguments(alloc, from, middle)?;
-    let other = arguments(alloc, middle, end)?;
-    format!(in alloc; "({one}, {other})")
+    let one = arguments(pen, from, middle);
+    let other = arguments(pen, middle, end);
+    pen.two("({}, {})", one.as_str(), other.as_str())
 }

@@ -4,8 +4,8 @@ use crate::held::Held;
 use crate::nested::Nested;
 use crate::text_codec::JSON;
 use crate::text_fields::field_name;
+use derive_pen::Pen;
 use derive_syntax::Holder;
-use std::alloc::{AllocError, Global};
 
 /// What is proved of fields that are appended.
 #[derive(Drop)]
@@ -19,37 +19,28 @@ pub(crate) struct Appended {
 }
 
 /// What is proved of all fields of a struct or a variant, and the text after them, as a ghost term.
-pub(crate) fn fields_proof(
-    alloc: Global,
-    nested: &Nested<'_>,
-    held: &Held<'_>,
-) -> Result<(Appended, String), AllocError> {
+pub(crate) fn fields_proof(pen: &Pen, nested: &Nested<'_>, held: &Held<'_>) -> (Appended, String) {
     let count = held.leaves.len();
-    let row = row_proof(alloc, (nested, held), 0, count)?;
-    Ok((row, state_before(alloc, held, count)?))
+    let row = row_proof(pen, (nested, held), 0, count);
+    (row, state_before(pen, held, count))
 }
 
 /// What is proved of the fields from one place up to another.
-fn row_proof(
-    alloc: Global,
-    of: (&Nested<'_>, &Held<'_>),
-    from: usize,
-    end: usize,
-) -> Result<Appended, AllocError> {
+fn row_proof(pen: &Pen, of: (&Nested<'_>, &Held<'_>), from: usize, end: usize) -> Appended {
     let count = end.saturating_sub(from);
     if count < 2 {
-        return field_proof(alloc, of, from);
+        return field_proof(pen, of, from);
     }
     let middle = from.saturating_add(count / 2);
-    let one = row_proof(alloc, of, from, middle)?;
-    let other = row_proof(alloc, of, middle, end)?;
+    let one = row_proof(pen, of, from, middle);
+    let other = row_proof(pen, of, middle, end);
     let (nested, held) = of;
-    let (first, next) = (first_at(alloc, held, from)?, first_at(alloc, held, middle)?);
-    let last = first_at(alloc, held, end)?;
-    let before = state_before(alloc, held, from)?;
-    let between = state_before(alloc, held, middle)?;
-    let after = state_before(alloc, held, end)?;
-    let mut holes = nested.holes(alloc);
+    let (first, next) = (first_at(pen, held, from), first_at(pen, held, middle));
+    let last = first_at(pen, held, end);
+    let before = state_before(pen, held, from);
+    let between = state_before(pen, held, middle);
+    let after = state_before(pen, held, end);
+    let mut holes = nested.holes(pen);
     holes.put("FIRST", first.as_str());
     holes.put("SECOND", next.as_str());
     holes.put("LAST", last.as_str());
@@ -62,11 +53,11 @@ fn row_proof(
     holes.put("BEFORE", before.as_str());
     holes.put("BETWEEN", between.as_str());
     holes.put("AFTER", after.as_str());
-    Ok(Appended {
-        fields: format!(in alloc; "({} ++ {})", one.fields, other.fields)?,
-        ok: holes.fill(MORE_FIELDS)?,
-        next: holes.fill(NONE_SO_FAR)?,
-    })
+    Appended {
+        fields: pen.two("({} ++ {})", one.fields.as_str(), other.fields.as_str()),
+        ok: pen.whole(holes.fill(MORE_FIELDS)),
+        next: pen.whole(holes.fill(NONE_SO_FAR)),
+    }
 }
 
 const NONE_SO_FAR: &str = "none_so_far $FIRST $SECOND $LAST $ONE_FIELDS $OTHER_FIELDS
@@ -78,33 +69,29 @@ const MORE_FIELDS: &str = "more_fields (field_text json_fields inner) \
     ($ONE_OK) ($ONE_NEXT) ($OTHER_OK)";
 
 /// What is proved of the field at a place.
-fn field_proof(
-    alloc: Global,
-    (nested, held): (&Nested<'_>, &Held<'_>),
-    i: usize,
-) -> Result<Appended, AllocError> {
-    let step = step_of(alloc, held, i)?;
+fn field_proof(pen: &Pen, (nested, held): (&Nested<'_>, &Held<'_>), i: usize) -> Appended {
+    let step = step_of(pen, held, i);
     let called = match held.called.get(i) {
         Some(called) => called.as_str(),
         None => "",
     };
-    let name = field_name(alloc, nested, &JSON, (held, called))?;
+    let name = field_name(pen, nested, &JSON, (held, called));
     let fields = if nested.is_enum {
-        format!(in alloc; "({name} c.args.v{i}.now)")?
+        pen.two("({} c.args.v{}.now)", name.as_str(), pen.number(i).as_str())
     } else {
-        format!(in alloc; "({name} x)")?
+        pen.one("({} x)", name.as_str())
     };
-    Ok(Appended {
+    Appended {
         fields,
-        ok: format!(in alloc; "c.in_ok-{step}.ensures.ok")?,
-        next: format!(in alloc; "c.in_ok-{step}.ensures.next")?,
-    })
+        ok: pen.one("c.in_ok-{}.ensures.ok", step.as_str()),
+        next: pen.one("c.in_ok-{}.ensures.next", step.as_str()),
+    }
 }
 
 /// The text before the field at a place, as a ghost term.
-fn state_before(alloc: Global, held: &Held<'_>, i: usize) -> Result<String, AllocError> {
+fn state_before(pen: &Pen, held: &Held<'_>, i: usize) -> String {
     let Some(before) = i.checked_sub(1) else {
-        return String::from_str(alloc, "opened");
+        return pen.copy("opened");
     };
     let name = call_of(held, before);
     let mut count: usize = 1;
@@ -114,9 +101,13 @@ fn state_before(alloc: Global, held: &Held<'_>, i: usize) -> Result<String, Allo
         }
     }
     if count > 1 {
-        return format!(in alloc; "(string_bytes c.{name}-{count}.new.s.out)");
+        return pen.two(
+            "(string_bytes c.{}-{}.new.s.out)",
+            name,
+            pen.number(count).as_str(),
+        );
     }
-    format!(in alloc; "(string_bytes c.{name}.new.s.out)")
+    pen.one("(string_bytes c.{}.new.s.out)", name)
 }
 
 /// The function that appends the field at a place.
@@ -131,26 +122,32 @@ fn call_of(held: &Held<'_>, i: usize) -> &'static str {
 }
 
 /// The names of the steps that append the fields.
-pub(crate) fn steps_of(alloc: Global, held: &Held<'_>) -> Result<Vec<String>, AllocError> {
-    let mut steps = Vec::new(alloc);
+pub(crate) fn steps_of(pen: &Pen, held: &Held<'_>) -> Vec<String> {
+    let mut steps = Vec::new(pen.alloc());
     for (i, _leaf) in held.leaves.iter().enumerate() {
-        steps.push(step_of(alloc, held, i)?)?;
+        pen.push(&mut steps, step_of(pen, held, i));
     }
-    Ok(steps)
+    steps
 }
 
 /// The name of the step that appends the field at a place.
-fn step_of(alloc: Global, held: &Held<'_>, i: usize) -> Result<String, AllocError> {
+fn step_of(pen: &Pen, held: &Held<'_>, i: usize) -> String {
     match held.called.get(i.saturating_add(1)) {
-        Some(next) => format!(in alloc; "{next}_is_first"),
-        None => String::from_str(alloc, call_of(held, i)),
+        Some(next) => pen.one("{}_is_first", next.as_str()),
+        None => pen.copy(call_of(held, i)),
     }
 }
 
 /// Whether no field comes before the one at a place, as a ghost term.
-fn first_at(alloc: Global, held: &Held<'_>, i: usize) -> Result<String, AllocError> {
+fn first_at(pen: &Pen, held: &Held<'_>, i: usize) -> String {
     match held.called.get(i) {
-        Some(name) if i > 0 => { format!(in alloc; "c.in_ok-{name}_is_first.{name}_is_first") }
-        _ => String::from_str(alloc, "true"),
+        Some(name) if i > 0 => {
+            pen.two(
+                "c.in_ok-{}_is_first.{}_is_first",
+                name.as_str(),
+                name.as_str(),
+            )
+        }
+        _ => pen.copy("true"),
     }
 }

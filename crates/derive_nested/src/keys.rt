@@ -2,7 +2,7 @@
 
 use crate::part::plain_part;
 use crate::wrapped::{atom, function};
-use std::alloc::{AllocError, Global};
+use derive_pen::Pen;
 
 /// What is said of the keys of a map or a set, as ghost terms.
 #[derive(Drop)]
@@ -65,13 +65,13 @@ fn order_of(key: &str) -> Order {
 }
 
 /// What is said of keys of a type of Rust's, by its name.
-pub(crate) fn keys_of(alloc: Global, key: &str) -> Result<Keys, AllocError> {
-    let part = plain_part(alloc, key)?;
-    Ok(Keys {
-        of: atom(alloc, part.of.as_str())?,
-        codec: atom(alloc, part.codec.as_str())?,
-        legal: atom(alloc, part.legal.as_str())?,
-        means: function(alloc, part.means.as_str())?,
+pub(crate) fn keys_of(pen: &Pen, key: &str) -> Keys {
+    let part = plain_part(pen, key);
+    Keys {
+        of: atom(pen, part.of.as_str()),
+        codec: atom(pen, part.codec.as_str()),
+        legal: atom(pen, part.legal.as_str()),
+        means: function(pen, part.means.as_str()),
         order: order_of(key),
-    })
+    }
 }

@@ -8,47 +8,47 @@ use crate::held::Held;
 use crate::imports::{Known, imports};
 use crate::nested::Nested;
 use crate::wrapped::atom;
-use std::alloc::{AllocError, Global};
+use derive_pen::Pen;
 
 /// The answers for that function of the enums among types that contain each other, or of one that
 /// contains itself, by the laws beside the definitions of this name.
 pub(crate) fn known_answers(
-    alloc: Global,
+    pen: &Pen,
     members: &[Nested<'_>],
     place: &Place<'_>,
     file: &str,
-) -> Result<Option<Answers>, AllocError> {
-    let mut cited = String::new(alloc);
-    let mut answers = String::new(alloc);
+) -> Option<Answers> {
+    let mut cited = pen.empty();
+    let mut answers = pen.empty();
     for nested in members {
         if nested.is_enum {
-            let Goals { prefix, .. } = known_goals(alloc, nested, place)?;
-            append_answered(alloc, nested, prefix.as_str(), (&mut cited, &mut answers))?;
+            let Goals { prefix, .. } = known_goals(pen, nested, place);
+            append_answered(pen, nested, prefix.as_str(), (&mut cited, &mut answers));
         }
     }
     let (Some(nested), false) = (members.last(), answers.is_empty()) else {
-        return Ok(None);
+        return None;
     };
-    let Goals { path, module, .. } = known_goals(alloc, nested, place)?;
-    let mut holes = nested.holes(alloc);
+    let Goals { path, module, .. } = known_goals(pen, nested, place);
+    let mut holes = nested.holes(pen);
     holes.put("HEAD", HEAD);
     holes.put("LIBRARY", place.library);
     holes.put("FILE", file);
     holes.put("CITED", cited.as_str());
-    let brought = imports(alloc, answers.as_str(), &[&AGREED])?;
+    let brought = imports(pen, answers.as_str(), &[&AGREED]);
     holes.put("BROUGHT", brought.as_str());
     holes.put("GOALS", module.as_str());
     holes.put("ANSWERS", answers.as_str());
-    Ok(Some(Answers {
+    Some(Answers {
         path,
-        text: holes.fill(KNOWN_ANSWERS)?,
-    }))
+        text: pen.whole(holes.fill(KNOWN_ANSWERS)),
+    })
 }
 
 /// The goals of that function of a type.
-fn known_goals(alloc: Global, nested: &Nested<'_>, place: &Place<'_>) -> Result<Goals, AllocError> {
-    let of = format!(in alloc; "{}Value", nested.names.of)?;
-    goals_of(alloc, nested, place, (of.as_str(), "known", "known", ""))
+fn known_goals(pen: &Pen, nested: &Nested<'_>, place: &Place<'_>) -> Goals {
+    let of = pen.one("{}Value", nested.names.of.as_str());
+    goals_of(pen, nested, place, (of.as_str(), "known", "known", ""))
 }
 
 const KNOWN_ANSWERS: &str = "\
@@ -98,72 +98,89 @@ pub(crate) const AGREED: [Known; 5] = [
 
 /// Appends the names of the laws of the variants of an enum, and the answers by them.
 fn append_answered(
-    alloc: Global,
+    pen: &Pen,
     nested: &Nested<'_>,
     prefix: &str,
     (cited, answers): (&mut String, &mut String),
-) -> Result<(), AllocError> {
+) {
     for (i, held) in nested.contents.iter().enumerate() {
-        let law = format!(in alloc; "{}_legal_{}", nested.names.snake, law_end(alloc, held)?)?;
+        let law = pen.two(
+            "{}_legal_{}",
+            nested.names.snake.as_str(),
+            law_end(pen, held).as_str(),
+        );
         let before = if cited.is_empty() { "" } else { ", " };
-        cited.push_str(format!(in alloc; "{before}{law}")?.as_str())?;
-        answers.push_str(answer(alloc, held, i == 0, (prefix, law.as_str()))?.as_str())?;
+        pen.add(cited, pen.two("{}{}", before, law.as_str()).as_str());
+        pen.add(
+            answers,
+            answer(pen, held, i == 0, (prefix, law.as_str())).as_str(),
+        );
     }
-    Ok(())
 }
 
 /// The answer for a variant, the first one or another, to a goal whose name begins so, by this law.
-fn answer(
-    alloc: Global,
-    held: &Held<'_>,
-    is_first: bool,
-    (prefix, law): (&str, &str),
-) -> Result<String, AllocError> {
+fn answer(pen: &Pen, held: &Held<'_>, is_first: bool, (prefix, law): (&str, &str)) -> String {
     let variant = held.name.as_str();
-    let mut values = String::new(alloc);
+    let mut values = pen.empty();
     for name in &held.called {
-        values.push_str(format!(in alloc; " c.in-{variant}.{name}")?.as_str())?;
+        pen.add(
+            &mut values,
+            pen.two(" c.in-{}.{}", variant, name.as_str()).as_str(),
+        );
     }
-    let mut calls = String::new(alloc);
+    let mut calls = pen.empty();
     for i in 0..held.leaves.len() {
-        let call = call_at(alloc, variant, is_first, i)?;
-        calls.push_str(legal_by(alloc, held, i, call.as_str())?.as_str())?;
+        let call = call_at(pen, variant, is_first, i);
+        pen.add(&mut calls, legal_by(pen, held, i, call.as_str()).as_str());
     }
-    let used = atom(alloc, format!(in alloc; "{law}{values}{calls}")?.as_str())?;
-    let goal = format!(in alloc; "{prefix}returns-in-{variant}")?;
-    let head = format!(in alloc; "{goal} t c")?;
-    let term = format!(in alloc; "rw c.in-{variant}.is {used}")?;
-    let answer = equation(alloc, head.as_str(), term.as_str())?;
-    format!(in alloc;
+    let used = atom(
+        pen,
+        pen.three("{}{}{}", law, values.as_str(), calls.as_str())
+            .as_str(),
+    );
+    let goal = pen.two("{}returns-in-{}", prefix, variant);
+    let head = pen.one("{} t c", goal.as_str());
+    let term = pen.two("rw c.in-{}.is {}", variant, used.as_str());
+    let answer = equation(pen, head.as_str(), term.as_str());
+    pen.three(
         "
-pub {goal} : goal.{goal}
-{answer}"
+pub {} : goal.{}
+{}",
+        goal.as_str(),
+        goal.as_str(),
+        answer.as_str(),
     )
 }
 
 /// That a part of a variant at its place is legal, by a call, after a space.
-fn legal_by(alloc: Global, held: &Held<'_>, i: usize, call: &str) -> Result<String, AllocError> {
+fn legal_by(pen: &Pen, held: &Held<'_>, i: usize, call: &str) -> String {
     let variant = held.name.as_str();
     let (Some(leaf), Some(name)) = (held.leaves.get(i), held.called.get(i)) else {
-        return Ok(String::new(alloc));
+        return pen.empty();
     };
     match &leaf.part.agrees {
         Some(agrees) => {
-            let agrees = atom(alloc, agrees.as_str())?;
-            format!(in alloc; " (legal_in_words {agrees} c.in-{variant}.{name} c.{call}.ensures)")
+            let agrees = atom(pen, agrees.as_str());
+            pen.four(
+                " (legal_in_words {} c.in-{}.{} c.{}.ensures)",
+                agrees.as_str(),
+                variant,
+                name.as_str(),
+                call,
+            )
         }
-        None => format!(in alloc; " c.{call}.ensures"),
+        None => pen.one(" c.{}.ensures", call),
     }
 }
 
 /// The name of a call for the part of a variant at this place. The first call of the function has
 /// the name of what it calls; a later one has that of the variant after it, and a number from the
 /// second on.
-fn call_at(alloc: Global, variant: &str, is_first: bool, i: usize) -> Result<String, AllocError> {
+fn call_at(pen: &Pen, variant: &str, is_first: bool, i: usize) -> String {
     let number = if is_first { i } else { i.saturating_add(1) };
     match number {
-        0 => String::from_str(alloc, "known"),
-        1 => format!(in alloc; "known-in-{variant}"),
-        _ => format!(in alloc; "known-in-{variant}-{number}"),
+        0 => pen.copy("known"),
+        1 => pen.one("known-in-{}", variant),
+        _ => pen.two("known-in-{}-{}", variant, pen.number(number).as_str()),
     }
 }

@@ -7,37 +7,37 @@ use crate::imports::imports;
 use crate::known_answers::AGREED;
 use crate::nested::Nested;
 use crate::wrapped::atom;
-use std::alloc::{AllocError, Global};
+use derive_pen::Pen;
 
 /// The answer for that function of a struct of a module, by the laws beside the definitions of this
 /// name.
 pub(crate) fn known_struct(
-    alloc: Global,
+    pen: &Pen,
     module: &str,
     nested: &Nested<'_>,
     (place, file): (&Place<'_>, &str),
-) -> Result<Answers, AllocError> {
-    let of = format!(in alloc; "{}Value", nested.names.of)?;
+) -> Answers {
+    let of = pen.one("{}Value", nested.names.of.as_str());
     let of = (of.as_str(), "known", "known", "");
     let Goals {
         path,
         module: goals,
         prefix: _prefix,
-    } = goals_of(alloc, nested, place, of)?;
-    let calls = calls(alloc, nested)?;
-    let mut holes = nested.holes(alloc);
+    } = goals_of(pen, nested, place, of);
+    let calls = calls(pen, nested);
+    let mut holes = nested.holes(pen);
     holes.put("HEAD", HEAD);
     holes.put("LIBRARY", place.library);
     holes.put("FILE", file);
-    let brought = imports(alloc, calls.as_str(), &[&AGREED])?;
+    let brought = imports(pen, calls.as_str(), &[&AGREED]);
     holes.put("BROUGHT", brought.as_str());
-    holes.put("VIEW", declared_view(alloc, module, nested)?.as_str());
+    holes.put("VIEW", declared_view(pen, module, nested).as_str());
     holes.put("GOALS", goals.as_str());
     holes.put("CALLS", calls.as_str());
-    Ok(Answers {
+    Answers {
         path,
-        text: holes.fill(KNOWN)?,
-    })
+        text: pen.whole(holes.fill(KNOWN)),
+    }
 }
 
 const KNOWN: &str = "\
@@ -52,25 +52,30 @@ returns t c =
 ";
 
 /// That each field is legal, after a line each.
-fn calls(alloc: Global, nested: &Nested<'_>) -> Result<String, AllocError> {
-    let mut text = String::new(alloc);
+fn calls(pen: &Pen, nested: &Nested<'_>) -> String {
+    let mut text = pen.empty();
     for held in &nested.contents {
         for (i, leaf) in held.leaves.iter().enumerate() {
             let call = if i == 0 {
-                String::from_str(alloc, "known")?
+                pen.copy("known")
             } else {
-                format!(in alloc; "known-{}", i.saturating_add(1))?
+                pen.one("known-{}", pen.number(i.saturating_add(1)).as_str())
             };
             let legal = match &leaf.part.agrees {
                 Some(agrees) => {
-                    let agrees = atom(alloc, agrees.as_str())?;
-                    format!(in alloc; "(legal_in_words {agrees} {} c.{call}.ensures)", leaf.value)?
+                    let agrees = atom(pen, agrees.as_str());
+                    pen.three(
+                        "(legal_in_words {} {} c.{}.ensures)",
+                        agrees.as_str(),
+                        leaf.value.as_str(),
+                        call.as_str(),
+                    )
                 }
-                None => format!(in alloc; "c.{call}.ensures")?,
+                None => pen.one("c.{}.ensures", call.as_str()),
             };
-            text.push_str("\n    ")?;
-            text.push_str(legal.as_str())?;
+            pen.add(&mut text, "\n    ");
+            pen.add(&mut text, legal.as_str());
         }
     }
-    Ok(text)
+    text
 }

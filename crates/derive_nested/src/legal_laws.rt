@@ -5,7 +5,7 @@ use crate::codec_laws::{Variant, binders, law_end, variant_at};
 use crate::held::Held;
 use crate::nested::Nested;
 use crate::wrapped::{at, atom};
-use std::alloc::{AllocError, Global};
+use derive_pen::Pen;
 
 /// A codec that says what is legal, as ghost terms.
 #[derive(Drop)]
@@ -20,26 +20,30 @@ pub(crate) struct Known {
 
 /// That a struct is legal.
 pub(crate) fn struct_legal(
-    alloc: Global,
+    pen: &Pen,
     nested: &Nested<'_>,
     held: &Held<'_>,
     known: &Known,
-) -> Result<String, AllocError> {
+) -> String {
     let Known { codec, within, law } = known;
-    let premises = premises(alloc, held, within.as_str())?;
-    let (hypotheses, legal) = (hypotheses(alloc, held)?, held.row.legal.as_str());
-    let mut holes = nested.holes(alloc);
+    let premises = premises(pen, held, within.as_str());
+    let (hypotheses, legal) = (hypotheses(pen, held), held.row.legal.as_str());
+    let mut holes = nested.holes(pen);
     let by = if nested.is_around() {
-        String::new(alloc)
+        pen.empty()
     } else {
-        format!(in alloc; "{law} x ({}_view x) refl\n    ", nested.names.snake)?
+        pen.two(
+            "{} x ({}_view x) refl\n    ",
+            law.as_str(),
+            nested.names.snake.as_str(),
+        )
     };
     holes.put("PREMISES", premises.as_str());
     holes.put("CODEC", codec.as_str());
     holes.put("HYPOTHESES", hypotheses.as_str());
     holes.put("BY", by.as_str());
     holes.put("LEGAL", legal);
-    holes.fill(STRUCT_LEGAL)
+    pen.whole(holes.fill(STRUCT_LEGAL))
 }
 
 const STRUCT_LEGAL: &str = "
@@ -51,19 +55,19 @@ $SNAKE_legal x$HYPOTHESES =
 
 /// That a variant at its place is legal.
 pub(crate) fn variant_legal(
-    alloc: Global,
+    pen: &Pen,
     nested: &Nested<'_>,
     (held, i): (&Held<'_>, usize),
     known: &Known,
-) -> Result<String, AllocError> {
+) -> String {
     let Known { codec, within, law } = known;
-    let (end, values) = (law_end(alloc, held)?, held.values(alloc)?);
-    let Variant { value, seen, view } = variant_at(alloc, nested, held, i)?;
-    let (seen, view) = (atom(alloc, seen.as_str())?, atom(alloc, view.as_str())?);
-    let parts = binders(alloc, nested, held)?;
-    let premises = premises(alloc, held, within.as_str())?;
-    let (hypotheses, legal) = (hypotheses(alloc, held)?, legal_at(alloc, held, i)?);
-    let mut holes = nested.holes(alloc);
+    let (end, values) = (law_end(pen, held), held.values(pen));
+    let Variant { value, seen, view } = variant_at(pen, nested, held, i);
+    let (seen, view) = (atom(pen, seen.as_str()), atom(pen, view.as_str()));
+    let parts = binders(pen, nested, held);
+    let premises = premises(pen, held, within.as_str());
+    let (hypotheses, legal) = (hypotheses(pen, held), legal_at(pen, held, i));
+    let mut holes = nested.holes(pen);
     holes.put("END", end.as_str());
     holes.put("PARTS", parts.as_str());
     holes.put("PREMISES", premises.as_str());
@@ -75,7 +79,7 @@ pub(crate) fn variant_legal(
     holes.put("SEEN", seen.as_str());
     holes.put("VIEW", view.as_str());
     holes.put("LEGAL", legal.as_str());
-    holes.fill(VARIANT_LEGAL)
+    pen.whole(holes.fill(VARIANT_LEGAL))
 }
 
 const VARIANT_LEGAL: &str = "
@@ -86,41 +90,50 @@ $SNAKE_legal_$END$GIVEN$HYPOTHESES =
 ";
 
 /// That each part is legal, as arguments of a law.
-fn premises(alloc: Global, held: &Held<'_>, itself: &str) -> Result<String, AllocError> {
-    let mut text = String::new(alloc);
+fn premises(pen: &Pen, held: &Held<'_>, itself: &str) -> String {
+    let mut text = pen.empty();
     for leaf in &held.leaves {
-        let codec = at(alloc, leaf.part.codec.as_str(), itself)?;
-        let codec = atom(alloc, codec.as_str())?;
-        let means = at(alloc, leaf.part.means.as_str(), leaf.value.as_str())?;
-        let means = atom(alloc, means.as_str())?;
+        let codec = at(pen, leaf.part.codec.as_str(), itself);
+        let codec = atom(pen, codec.as_str());
+        let means = at(pen, leaf.part.means.as_str(), leaf.value.as_str());
+        let means = atom(pen, means.as_str());
         let premise = if held.name.is_empty() {
-            format!(in alloc; "\n    → {codec}.encoding.legal {means}")?
+            pen.two(
+                "\n    → {}.encoding.legal {}",
+                codec.as_str(),
+                means.as_str(),
+            )
         } else {
-            format!(in alloc; "{codec}.encoding.legal {means}\n    → ")?
+            pen.two(
+                "{}.encoding.legal {}\n    → ",
+                codec.as_str(),
+                means.as_str(),
+            )
         };
-        text.push_str(premise.as_str())?;
+        pen.add(&mut text, premise.as_str());
     }
-    Ok(text)
+    text
 }
 
 /// The names of those arguments, each after a space.
-fn hypotheses(alloc: Global, held: &Held<'_>) -> Result<String, AllocError> {
-    let mut text = String::new(alloc);
+fn hypotheses(pen: &Pen, held: &Held<'_>) -> String {
+    let mut text = pen.empty();
     for leaf in &held.leaves {
-        text.push(' ')?;
-        text.push_str(leaf.legal.as_str())?;
+        pen.add(&mut text, " ");
+        pen.add(&mut text, leaf.legal.as_str());
     }
-    Ok(text)
+    text
 }
 
 /// That the content of a variant at its place is legal.
-fn legal_at(alloc: Global, held: &Held<'_>, i: usize) -> Result<String, AllocError> {
-    let mut legal = format!(in alloc;
-        "(inl (record {{ part = {}; has = {}; is = refl }}))",
-        held.row.part.means, held.row.legal
-    )?;
+fn legal_at(pen: &Pen, held: &Held<'_>, i: usize) -> String {
+    let mut legal = pen.two(
+        "(inl (record { part = {}; has = {}; is = refl }))",
+        held.row.part.means.as_str(),
+        held.row.legal.as_str(),
+    );
     for _before in 0..i {
-        legal = format!(in alloc; "(inr {legal})")?;
+        legal = pen.one("(inr {})", legal.as_str());
     }
-    Ok(legal)
+    legal
 }

@@ -21,6 +21,7 @@ mod formats;
 mod generic;
 mod generic_agreement;
 mod generic_answers;
+mod generic_calls;
 mod generic_goals;
 mod generic_heads;
 mod generic_readers;

@@ -1,28 +1,24 @@
 //! What a field that is missing means, as a ghost term.
 
+use derive_pen::Pen;
 use derive_syntax::{Core, Field, Missing, NestedPart, missing_value};
-use std::alloc::{AllocError, Global};
 
 /// What a field means that has a default and is missing; the field is made of this.
-pub(crate) fn missing_of(
-    alloc: Global,
-    field: Field<'_>,
-    nested: &NestedPart<'_>,
-) -> Result<Option<String>, AllocError> {
+pub(crate) fn missing_of(pen: &Pen, field: Field<'_>, nested: &NestedPart<'_>) -> Option<String> {
     if field.attributes.default.is_none() {
-        return Ok(None);
+        return None;
     }
     let term = match missing_value(field) {
-        Missing::Whole(number) => format!(in alloc; "(whole {number})")?,
+        Missing::Whole(number) => pen.one("(whole {})", number),
         Missing::Signed(number) => match number.strip_prefix('-') {
-            Some(digits) => format!(in alloc; "(number (neg_ℤ (pos {digits})))")?,
-            None => format!(in alloc; "(number (pos {number}))")?,
+            Some(digits) => pen.one("(number (neg_ℤ (pos {})))", digits),
+            None => pen.one("(number (pos {}))", number),
         },
-        Missing::Truth(word) => format!(in alloc; "(truth {word})")?,
-        Missing::Text(text) => format!(in alloc; "(text (codes \"{text}\"))")?,
-        Missing::OfType | Missing::Path(_) => String::from_str(alloc, of_type(nested))?,
+        Missing::Truth(word) => pen.one("(truth {})", word),
+        Missing::Text(text) => pen.one("(text (codes \"{}\"))", text),
+        Missing::OfType | Missing::Path(_) => pen.copy(of_type(nested)),
     };
-    Ok(Some(term))
+    Some(term)
 }
 
 /// What the default of a part's type means.

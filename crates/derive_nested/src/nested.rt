@@ -4,9 +4,9 @@ use crate::cycle::{Members, constructor_of, members_of, names_of};
 use crate::held::{Held, struct_held, variant_held};
 use crate::parameters::{Format, first_of};
 use crate::part::Names;
-use crate::wrapped::{at, atom};
+use crate::wrapped::{applied, at, atom};
+use derive_pen::Pen;
 use derive_syntax::{Attributes, Cycle, Definition, Fault, Holes, Shape, Source};
-use std::alloc::{AllocError, Global};
 
 /// A type that contains itself.
 #[derive(Drop)]
@@ -35,11 +35,11 @@ pub(crate) struct Nested<'a> {
 ///
 /// The type does not contain itself, or an allocation fails.
 fn cycle_of<'a>(
-    alloc: Global,
+    pen: &Pen,
     source: &Source<'a>,
     definition: &Definition<'a>,
 ) -> Result<Cycle<'a>, Fault> {
-    match source.cycle_of(alloc, definition)? {
+    match source.cycle_of(pen.alloc(), definition)? {
         Some(cycle) => Ok(cycle),
         None => Err(definition.name.fault("does not contain itself")),
     }
@@ -58,30 +58,15 @@ pub(crate) fn counted_in<'a>(source: &Source<'a>, cycle: &Cycle<'a>) -> Option<A
 /// A definition of a source as what is written says it. The fields of a struct are those of this
 /// value.
 pub(crate) fn nested_of<'a>(
-    alloc: Global,
+    pen: &Pen,
     (source, definition): (&Source<'a>, &Definition<'a>),
     value: &str,
 ) -> Result<Nested<'a>, Fault> {
-    let cycle = cycle_of(alloc, source, definition)?;
-    let mut contents = Vec::new(alloc);
-    let (variants, is_enum) = match &definition.shape {
-        Shape::Fields(fields) => {
-            contents.push(struct_held(alloc, &cycle, (fields, value))?)?;
-            (None, false)
-        }
-        Shape::Parts(_parts) => (None, false),
-        Shape::Variants(variants) => (Some(variants), true),
-    };
-    if let Some(variants) = variants {
-        for variant in variants {
-            let names = (definition.name.text, variant.name.text);
-            let constructor = constructor_of(alloc, source, &cycle, names)?;
-            contents.push(variant_held(alloc, &cycle, variant, constructor)?)?;
-        }
-    }
-    let mut parameters = Vec::new(alloc);
+    let cycle = cycle_of(pen, source, definition)?;
+    let contents = contents_of(pen, (source, definition), &cycle, value)?;
+    let mut parameters = Vec::new(pen.alloc());
     for parameter in &cycle.parameters {
-        parameters.push(names_of(alloc, parameter.text)?)?;
+        pen.push(&mut parameters, names_of(pen, parameter.text));
     }
     let counted = counted_in(source, &cycle).unwrap_or(definition.attributes);
     let too_deep = match counted.levels {
@@ -89,9 +74,9 @@ pub(crate) fn nested_of<'a>(
         None => "too_deep",
     };
     Ok(Nested {
-        names: names_of(alloc, definition.name.text)?,
-        members: members_of(alloc, source, &cycle)?,
-        is_enum,
+        names: names_of(pen, definition.name.text),
+        members: members_of(pen, source, &cycle),
+        is_enum: matches!(definition.shape, Shape::Variants(_)),
         limit: counted.level_limit(),
         too_deep,
         contents,
@@ -100,10 +85,36 @@ pub(crate) fn nested_of<'a>(
     })
 }
 
+/// What the variants of a definition hold, or what it has as a struct whose fields are those of
+/// this value.
+fn contents_of<'a>(
+    pen: &Pen,
+    (source, definition): (&Source<'a>, &Definition<'a>),
+    cycle: &Cycle<'a>,
+    value: &str,
+) -> Result<Vec<Held<'a>>, Fault> {
+    let mut contents = Vec::new(pen.alloc());
+    let variants = match &definition.shape {
+        Shape::Fields(fields) => {
+            pen.push(&mut contents, struct_held(pen, cycle, (fields, value))?);
+            return Ok(contents);
+        }
+        Shape::Parts(_parts) => return Ok(contents),
+        Shape::Variants(variants) => variants,
+    };
+    for variant in variants {
+        let names = (definition.name.text, variant.name.text);
+        let constructor = constructor_of(pen, source, cycle, names);
+        let held = variant_held(pen, cycle, variant, constructor)?;
+        pen.push(&mut contents, held);
+    }
+    Ok(contents)
+}
+
 impl Nested<'_> {
     /// The holes of templates in which its names stand, and how many levels are read.
-    pub(crate) fn holes(&self, alloc: Global) -> Holes {
-        let mut holes = Holes::new(alloc);
+    pub(crate) fn holes(&self, pen: &Pen) -> Holes {
+        let mut holes = Holes::new(pen.alloc());
         holes.put("NAME", self.names.of.as_str());
         holes.put("SNAKE", self.names.snake.as_str());
         holes.put("LIMIT", self.limit);
@@ -111,10 +122,10 @@ impl Nested<'_> {
     }
 
     /// The same, and those in which what speaks of all types stands that contain each other.
-    pub(crate) fn all_holes(&self, alloc: Global) -> Result<Holes, AllocError> {
-        let mut holes = self.holes(alloc);
-        self.members.put(alloc, &mut holes)?;
-        Ok(holes)
+    pub(crate) fn all_holes(&self, pen: &Pen) -> Holes {
+        let mut holes = self.holes(pen);
+        self.members.put(pen, &mut holes);
+        holes
     }
 
     /// The names of the type of whose values it is a layer: itself, or the root.
@@ -129,7 +140,7 @@ impl Nested<'_> {
 
     /// What a value is seen as: what the variants hold, each of the first variant and the rest.
     /// The type itself is called so.
-    pub(crate) fn seen(&self, alloc: Global, itself: &str) -> Result<String, AllocError> {
+    pub(crate) fn seen(&self, pen: &Pen, itself: &str) -> String {
         let mut seen: Option<String> = None;
         let between = if self.contents.len() > 3 {
             "\n    "
@@ -137,42 +148,38 @@ impl Nested<'_> {
             " "
         };
         for held in self.contents.iter().rev() {
-            let of = at(alloc, held.row.part.of.as_str(), itself)?;
+            let of = at(pen, held.row.part.of.as_str(), itself);
             seen = match seen {
-                Some(rest) => {
-                    let (of, rest) = (atom(alloc, of.as_str())?, atom(alloc, rest.as_str())?);
-                    Some(format!(in alloc; "Either {of}{between}{rest}")?)
-                }
+                Some(rest) => Some(either(pen, of.as_str(), between, rest.as_str())),
                 None => Some(of),
             };
         }
-        match seen {
-            Some(seen) => Ok(seen),
-            None => String::from_str(alloc, "Unit {0}"),
-        }
+        seen.unwrap_or(pen.copy("Unit {0}"))
     }
 
     /// A value of the content of a variant at its place.
-    pub(crate) fn at_place(
-        &self,
-        alloc: Global,
-        i: usize,
-        value: &str,
-    ) -> Result<String, AllocError> {
+    pub(crate) fn at_place(&self, pen: &Pen, i: usize, value: &str) -> String {
         let count = self.contents.len();
         let is_last = i.saturating_add(1) == count;
         if count < 2 {
-            return String::from_str(alloc, value);
+            return pen.copy(value);
         }
         let (depth, end) = if is_last {
             (i.saturating_sub(1), "Later")
         } else {
             (i, "First")
         };
-        let mut path = format!(in alloc; "{end} {value}")?;
+        let mut path = pen.two("{} {}", end, value);
         for _later in 0..depth {
-            path = format!(in alloc; "Later ({path})")?;
+            path = pen.one("Later ({})", path.as_str());
         }
-        Ok(path)
+        path
     }
+}
+
+/// A type of values of one of two types, with this between them.
+fn either(pen: &Pen, first: &str, between: &str, rest: &str) -> String {
+    let first = applied(pen, "Either", first);
+    let rest = atom(pen, rest);
+    pen.three("{}{}{}", first.as_str(), between, rest.as_str())
 }

@@ -2,10 +2,11 @@
 //! is what its impls say.
 
 use crate::bodies::{Body, File};
+use crate::cycle::snake_of;
 use crate::held::Held;
 use crate::nested::Nested;
-use derive_syntax::{Case, Source, crate_of};
-use std::alloc::{AllocError, Global};
+use derive_pen::Pen;
+use derive_syntax::{Holes, Source, crate_of};
 
 /// Another user-defined type.
 #[derive(Drop)]
@@ -42,62 +43,50 @@ pub(crate) const BIN: Said = Said {
 
 /// Adds the other types within a type of a module that are not there yet.
 pub(crate) fn add_others_of<'a>(
-    alloc: Global,
+    pen: &Pen,
     module: &str,
     source: &Source<'a>,
     nested: &Nested<'a>,
     others: &mut Vec<Other>,
-) -> Result<(), AllocError> {
+) {
     for held in &nested.contents {
-        add_others(alloc, module, source, held, others)?;
+        add_others(pen, module, source, held, others);
     }
-    Ok(())
 }
 
 /// Adds the other types among some parts that are not there yet.
 fn add_others<'a>(
-    alloc: Global,
+    pen: &Pen,
     module: &str,
     source: &Source<'a>,
     held: &Held<'a>,
     others: &mut Vec<Other>,
-) -> Result<(), AllocError> {
+) {
     for leaf in &held.leaves {
         for name in &leaf.nested.others {
             if !has(others, *name) {
-                others.push(other_of(alloc, module, source, *name)?)?;
+                pen.push(others, other_of(pen, module, source, *name));
             }
         }
     }
-    Ok(())
 }
 
 /// Another type of this name, within a type of a module.
-fn other_of(
-    alloc: Global,
-    module: &str,
-    source: &Source<'_>,
-    name: &str,
-) -> Result<Other, AllocError> {
-    Ok(Other {
-        name: String::from_str(alloc, name)?,
-        snake: Case::Snake.of_variant(alloc, name)?,
-        module: module_of_other(alloc, module, source, name)?,
-    })
+fn other_of(pen: &Pen, module: &str, source: &Source<'_>, name: &str) -> Other {
+    Other {
+        name: pen.copy(name),
+        snake: snake_of(pen, name),
+        module: module_of_other(pen, module, source, name),
+    }
 }
 
 /// The module of another type, by a line that brings it in, or the one of the file.
-fn module_of_other(
-    alloc: Global,
-    module: &str,
-    source: &Source<'_>,
-    name: &str,
-) -> Result<String, AllocError> {
-    if let Some(brought) = source.module_of_type(alloc, name)? {
-        return Ok(brought);
+fn module_of_other(pen: &Pen, module: &str, source: &Source<'_>, name: &str) -> String {
+    if let Some(Some(brought)) = pen.made(source.module_of_type(pen.alloc(), name)) {
+        return brought;
     }
     let (_library, path) = crate_of(module);
-    String::from_str(alloc, path)
+    pen.copy(path)
 }
 
 /// Whether a type of this name is among some.
@@ -112,106 +101,106 @@ fn has(others: &[Other], name: &str) -> bool {
 
 /// Appends the codecs of other types in a format, which stand before those around them.
 pub(crate) fn append_codecs_of(
-    alloc: Global,
+    pen: &Pen,
     module: &str,
     others: &[Other],
     said: &Said,
     body: &mut Body,
-) -> Result<(), AllocError> {
+) {
     for other in others {
-        let (name, snake, called) = (other.name.as_str(), other.snake.as_str(), said.called);
-        let codec = format!(in alloc;
-            "
--- the codec of `{name}`
-abbrev pub {snake}_part : Codec {name}
-{snake}_part = {snake}_{called}.{called}
-"
-        )?;
-        add(&mut body.text, codec.as_str())?;
+        let mut holes = Holes::new(pen.alloc());
+        holes.put("NAME", other.name.as_str());
+        holes.put("SNAKE", other.snake.as_str());
+        holes.put("CALLED", said.called);
+        let codec = pen.whole(holes.fill(CODEC));
+        add(pen, &mut body.text, codec.as_str());
         add(
+            pen,
             &mut body.brought,
-            said_line(alloc, module, other, said)?.as_str(),
-        )?;
+            said_line(pen, module, other, said).as_str(),
+        );
     }
-    Ok(())
 }
 
+const CODEC: &str = "
+-- the codec of `$NAME`
+abbrev pub $SNAKE_part : Codec $NAME
+$SNAKE_part = $SNAKE_$CALLED.$CALLED
+";
+
 /// Appends the lines that bring in what a text cites of other types.
-pub(crate) fn append_others(
-    alloc: Global,
-    module: &str,
-    others: &[Other],
-    body: &mut Body,
-) -> Result<(), AllocError> {
+pub(crate) fn append_others(pen: &Pen, module: &str, others: &[Other], body: &mut Body) {
     for other in others {
         if body.text.contains(other.name.as_str()) {
             add(
+                pen,
                 &mut body.brought,
-                declared_line(alloc, module, other)?.as_str(),
-            )?;
+                declared_line(pen, module, other).as_str(),
+            );
         }
-        let value = format!(in alloc; "{}_value", other.snake)?;
+        let value = pen.one("{}_value", other.snake.as_str());
         if body.text.contains(value.as_str()) {
             add(
+                pen,
                 &mut body.brought,
-                said_line(alloc, module, other, &VALUE)?.as_str(),
-            )?;
+                said_line(pen, module, other, &VALUE).as_str(),
+            );
         }
     }
-    Ok(())
 }
 
 /// Appends the lines that bring in the codecs of other types that a text cites, from the file of
 /// definitions.
-pub(crate) fn append_cited(
-    alloc: Global,
-    file: File<'_>,
-    others: &[Other],
-    body: &mut Body,
-) -> Result<(), AllocError> {
+pub(crate) fn append_cited(pen: &Pen, file: File<'_>, others: &[Other], body: &mut Body) {
     let (library, _path) = crate_of(file.module);
     let file = file.name;
     for other in others {
-        let codec = format!(in alloc; "{}_part", other.snake)?;
+        let codec = pen.one("{}_part", other.snake.as_str());
         if body.text.contains(codec.as_str()) {
-            let line = format!(in alloc; "use Rattle.{library}.specs.{file}.{{{codec}}}\n")?;
-            add(&mut body.brought, line.as_str())?;
+            let line = pen.three(
+                "use Rattle.{}.specs.{}.{{}}\n",
+                library,
+                file,
+                codec.as_str(),
+            );
+            add(pen, &mut body.brought, line.as_str());
         }
     }
-    Ok(())
 }
 
 /// The line that brings in another type.
-fn declared_line(alloc: Global, module: &str, other: &Other) -> Result<String, AllocError> {
+fn declared_line(pen: &Pen, module: &str, other: &Other) -> String {
     let (library, _path) = crate_of(module);
     let Other { name, module, .. } = other;
-    format!(in alloc; "use Rattle.{library}.specs.declared{module}.{name}.{{{name}}}\n")
-}
-
-/// The line that brings in the ghost members of an impl of another type.
-fn said_line(
-    alloc: Global,
-    module: &str,
-    other: &Other,
-    said: &Said,
-) -> Result<String, AllocError> {
-    let (library, _path) = crate_of(module);
-    let Other {
-        name,
-        snake,
+    pen.four(
+        "use Rattle.{}.specs.declared{}.{}.{{}}\n",
+        library,
         module,
-    } = other;
-    let (by, called) = (said.by, said.called);
-    format!(in alloc;
-        "use Rattle.{library}.specs.contracts{module}.derived.{name}{by}.TheImpl\
-        .{{ghosts as {snake}_{called}}}\n"
+        name.as_str(),
+        name.as_str(),
     )
 }
 
+/// The line that brings in the ghost members of an impl of another type.
+fn said_line(pen: &Pen, module: &str, other: &Other, said: &Said) -> String {
+    let (library, _path) = crate_of(module);
+    let mut holes = Holes::new(pen.alloc());
+    holes.put("LIBRARY", library);
+    holes.put("MODULE", other.module.as_str());
+    holes.put("NAME", other.name.as_str());
+    holes.put("SNAKE", other.snake.as_str());
+    holes.put("BY", said.by);
+    holes.put("CALLED", said.called);
+    pen.whole(holes.fill(SAID))
+}
+
+const SAID: &str = "use Rattle.$LIBRARY.specs.contracts$MODULE.derived.$NAME$BY.TheImpl\
+    .{ghosts as $SNAKE_$CALLED}\n";
+
 /// Appends a text to one that does not have it yet.
-fn add(text: &mut String, more: &str) -> Result<(), AllocError> {
+fn add(pen: &Pen, text: &mut String, more: &str) {
     if text.contains(more) {
-        return Ok(());
+        return;
     }
-    text.push_str(more)
+    pen.add(text, more);
 }

@@ -5,8 +5,8 @@ use crate::codec_laws::law_end;
 use crate::nested::Nested;
 use crate::part::Names;
 use crate::words::Words;
+use derive_pen::Pen;
 use derive_syntax::{Attributes, Holes};
-use std::alloc::{AllocError, Global};
 
 /// A format, by its codecs.
 #[derive(Clone, Copy)]
@@ -100,18 +100,13 @@ impl Speech {
 }
 
 /// A template for a parameter and a format.
-fn of_one(
-    alloc: Global,
-    names: &Names,
-    template: &str,
-    format: Format,
-) -> Result<String, AllocError> {
-    let mut holes = Holes::new(alloc);
+fn of_one(pen: &Pen, names: &Names, template: &str, format: Format) -> String {
+    let mut holes = Holes::new(pen.alloc());
     holes.put("NAME", names.of.as_str());
     holes.put("SNAKE", names.snake.as_str());
     holes.put("FORMAT", format.name);
     holes.put("OF", format.of);
-    holes.fill(template)
+    pen.whole(holes.fill(template))
 }
 
 impl Nested<'_> {
@@ -123,57 +118,53 @@ impl Nested<'_> {
     /// A template for each parameter and a format, with something between them.
     pub(crate) fn of_each(
         &self,
-        alloc: Global,
+        pen: &Pen,
         template: &str,
         format: Format,
         between: &str,
-    ) -> Result<String, AllocError> {
-        let mut text = String::new(alloc);
+    ) -> String {
+        let mut text = pen.empty();
         for names in &self.parameters {
-            text.push_str(if text.is_empty() { "" } else { between })?;
-            text.push_str(of_one(alloc, names, template, format)?.as_str())?;
+            pen.add_between(&mut text, between);
+            pen.add(&mut text, of_one(pen, names, template, format).as_str());
         }
-        Ok(text)
+        text
     }
 
     /// The same for each in a row of arguments.
-    fn given(&self, alloc: Global, template: &str, format: &str) -> Result<String, AllocError> {
-        self.of_each(alloc, template, coded_by(format), " ")
+    fn given(&self, pen: &Pen, template: &str, format: &str) -> String {
+        self.of_each(pen, template, coded_by(format), " ")
     }
 
     /// Its parameters.
-    pub(crate) fn types(&self, alloc: Global) -> Result<String, AllocError> {
-        self.given(alloc, "$NAME", "")
+    pub(crate) fn types(&self, pen: &Pen) -> String {
+        self.given(pen, "$NAME", "")
     }
 
     /// Its parameters, as a text speaks of them: goals leave them out.
-    fn types_in(&self, alloc: Global, speech: Speech) -> Result<String, AllocError> {
+    fn types_in(&self, pen: &Pen, speech: Speech) -> String {
         match speech {
-            Speech::Goals(_name) => self.given(alloc, "_", ""),
-            _ => self.types(alloc),
+            Speech::Goals(_name) => self.given(pen, "_", ""),
+            _ => self.types(pen),
         }
     }
 }
 
 /// The words by which a text on a type says its names, where it speaks so of the type's parameters.
-pub(crate) fn words_of(
-    alloc: Global,
-    nested: &Nested<'_>,
-    speech: Speech,
-) -> Result<Words, AllocError> {
-    let mut words = Words::new(alloc);
-    put_types(alloc, nested, speech, &mut words)?;
-    put_steps(alloc, nested, speech, &mut words)?;
-    put_views(alloc, nested, &mut words)?;
-    put_parts(alloc, nested, speech, &mut words)?;
+pub(crate) fn words_of(pen: &Pen, nested: &Nested<'_>, speech: Speech) -> Words {
+    let mut words = Words::new(pen);
+    put_types(pen, nested, speech, &mut words);
+    put_steps(pen, nested, speech, &mut words);
+    put_views(pen, nested, &mut words);
+    put_parts(pen, nested, speech, &mut words);
     let snake = nested.names.snake.as_str();
     let first = nested.first.name;
     for (begin, format) in [("_json", "json"), ("_ron", "ron"), ("_", first)] {
         let (template, format) = speech.codec(format);
-        let given = nested.of_each(alloc, template, format, " ")?;
-        words.give(format!(in alloc; "{snake}{begin}")?, given)?;
+        let given = nested.of_each(pen, template, format, " ");
+        words.give(pen, pen.two("{}{}", snake, begin), given);
     }
-    Ok(words)
+    words
 }
 
 /// What is declared of a type: each name is given the parameters.
@@ -187,76 +178,59 @@ const DECLARED: [(&str, &str); 6] = [
 ];
 
 /// Puts the type, and what is declared of it.
-fn put_types(
-    alloc: Global,
-    nested: &Nested<'_>,
-    speech: Speech,
-    words: &mut Words,
-) -> Result<(), AllocError> {
-    let (name, types) = (nested.names.of.as_str(), nested.types_in(alloc, speech)?);
+fn put_types(pen: &Pen, nested: &Nested<'_>, speech: Speech, words: &mut Words) {
+    let (name, types) = (nested.names.of.as_str(), nested.types_in(pen, speech));
     words.put(
-        String::from_str(alloc, name)?,
-        format!(in alloc; "({name} {types})")?,
-    )?;
+        pen,
+        pen.copy(name),
+        pen.two("({} {})", name, types.as_str()),
+    );
     for (before, after) in DECLARED {
-        let word = format!(in alloc; "{before}{name}{after}")?;
-        let text = format!(in alloc; "{word} {types}")?;
-        words.put(word, text)?;
+        let word = pen.three("{}{}{}", before, name, after);
+        let text = pen.two("{} {}", word.as_str(), types.as_str());
+        words.put(pen, word, text);
     }
-    Ok(())
 }
 
 /// Puts what a value means, which meanings are legal, and what is said of the shape of a type
 /// alone.
-fn put_steps(
-    alloc: Global,
-    nested: &Nested<'_>,
-    speech: Speech,
-    words: &mut Words,
-) -> Result<(), AllocError> {
+fn put_steps(pen: &Pen, nested: &Nested<'_>, speech: Speech, words: &mut Words) {
     let snake = nested.names.snake.as_str();
-    let means = nested.given(alloc, speech.means(), speech.format())?;
-    let legal = nested.given(alloc, speech.legal(), speech.format())?;
+    let means = nested.given(pen, speech.means(), speech.format());
+    let legal = nested.given(pen, speech.legal(), speech.format());
     for (end, given) in [("means", &means), ("means_step", &means), ("step", &legal)] {
-        let word = format!(in alloc; "{snake}_{end}")?;
-        let text = format!(in alloc; "({word} {given})")?;
-        words.put(word, text)?;
+        let word = pen.two("{}_{}", snake, end);
+        let text = pen.two("({} {})", word.as_str(), given.as_str());
+        words.put(pen, word, text);
     }
     for end in SHAPES {
-        let word = format!(in alloc; "{snake}_{end}")?;
-        words.put(word.clone()?, word)?;
+        let word = pen.two("{}_{}", snake, end);
+        words.put(pen, pen.copy(word.as_str()), word);
     }
-    Ok(())
 }
 
 /// What is said of the shape of a type alone.
 const SHAPES: [&str; 4] = ["opened", "view", "depth", "depth_step"];
 
 /// Puts what the variants are seen as. That of a variant with no content is given the parameters.
-fn put_views(alloc: Global, nested: &Nested<'_>, words: &mut Words) -> Result<(), AllocError> {
-    let (snake, types) = (nested.names.snake.as_str(), nested.types(alloc)?);
+fn put_views(pen: &Pen, nested: &Nested<'_>, words: &mut Words) {
+    let (snake, types) = (nested.names.snake.as_str(), nested.types(pen));
     for held in &nested.contents {
         if !nested.is_enum {
             continue;
         }
-        let word = format!(in alloc; "{snake}_view_{}", law_end(alloc, held)?)?;
+        let word = pen.two("{}_view_{}", snake, law_end(pen, held).as_str());
         let text = if held.leaves.is_empty() {
-            format!(in alloc; "({word} {types})")?
+            pen.two("({} {})", word.as_str(), types.as_str())
         } else {
-            word.clone()?
+            pen.copy(word.as_str())
         };
-        words.put(word, text)?;
+        words.put(pen, word, text);
     }
-    Ok(())
 }
 
 /// Puts what is said of each parameter.
-fn put_parts(
-    alloc: Global,
-    nested: &Nested<'_>,
-    speech: Speech,
-    words: &mut Words,
-) -> Result<(), AllocError> {
+fn put_parts(pen: &Pen, nested: &Nested<'_>, speech: Speech, words: &mut Words) {
     let format = coded_by(speech.format());
     let (codec, _name) = speech.codec(format.name);
     for names in &nested.parameters {
@@ -266,9 +240,8 @@ fn put_parts(
             ("$SNAKE_value.legal", speech.legal()),
             ("$SNAKE_agrees", "g.met.$NAME.$OF.agrees"),
         ] {
-            let word = of_one(alloc, names, word, format)?;
-            words.put(word, of_one(alloc, names, text, format)?)?;
+            let word = of_one(pen, names, word, format);
+            words.put(pen, word, of_one(pen, names, text, format));
         }
     }
-    Ok(())
 }

@@ -1,9 +1,10 @@
 //! What is said of a part of a type that contains itself, as ghost terms. Where a term speaks of
 //! values of the type itself or of the part's value, it has a hole, which is a dollar sign.
 
-use crate::wrapped::atom;
-use derive_syntax::{Case, Core};
-use std::alloc::{AllocError, Global};
+use crate::cycle::snake_of;
+use crate::wrapped::applied;
+use derive_pen::Pen;
+use derive_syntax::Core;
 
 /// What is said of a part.
 #[derive(Drop)]
@@ -85,112 +86,106 @@ const PLAIN: &[(&str, &str, &str, &str, &str)] = &[
 ];
 
 /// What is said of a part that stands in no other type.
-pub(crate) fn core_part(alloc: Global, names: &Names, core: Core<'_>) -> Result<Part, AllocError> {
+pub(crate) fn core_part(pen: &Pen, names: &Names, core: Core<'_>) -> Part {
     match core {
-        Core::Itself => itself(alloc, names),
-        Core::Around(name) => around(alloc, name),
-        Core::Plain(name) => plain_part(alloc, name),
-        Core::Other(name) => user_part(alloc, name),
-        Core::Parameter(name) => parameter_part(alloc, name),
-        Core::Container(_) => nothing_part(alloc),
+        Core::Itself => itself(pen, names),
+        Core::Around(name) => around(pen, name),
+        Core::Plain(name) => plain_part(pen, name),
+        Core::Other(name) => user_part(pen, name),
+        Core::Parameter(name) => parameter_part(pen, name),
+        Core::Container(_) => nothing_part(pen),
     }
 }
 
 /// What is said of another user-defined type, by what its impls say.
-fn user_part(alloc: Global, name: &str) -> Result<Part, AllocError> {
-    let snake = Case::Snake.of_variant(alloc, name)?;
-    let codec = format!(in alloc; "{snake}_part")?;
-    let means = format!(in alloc; "{snake}_value.means $")?;
-    let legal = format!(in alloc; "{snake}_value.legal")?;
-    other_part(
-        alloc,
-        (name, codec.as_str(), means.as_str(), legal.as_str()),
-    )
+fn user_part(pen: &Pen, name: &str) -> Part {
+    let snake = snake_of(pen, name);
+    let codec = pen.one("{}_part", snake.as_str());
+    let means = pen.one("{}_value.means $", snake.as_str());
+    let legal = pen.one("{}_value.legal", snake.as_str());
+    other_part(pen, (name, codec.as_str(), means.as_str(), legal.as_str()))
 }
 
 /// What is said of a type parameter, by the codec that it has.
-fn parameter_part(alloc: Global, name: &str) -> Result<Part, AllocError> {
-    let mut part = user_part(alloc, name)?;
-    let snake = Case::Snake.of_variant(alloc, name)?;
-    part.agrees = Some(format!(in alloc; "{snake}_agrees")?);
+fn parameter_part(pen: &Pen, name: &str) -> Part {
+    let mut part = user_part(pen, name);
+    let snake = snake_of(pen, name);
+    part.agrees = Some(pen.one("{}_agrees", snake.as_str()));
     part.weaker = snake;
-    Ok(part)
+    part
 }
 
 /// What is said of a type that contains the type itself and stands in it: it is a layer around its
 /// values, and its depth is counted already.
-fn around(alloc: Global, name: &str) -> Result<Part, AllocError> {
-    let snake = Case::Snake.of_variant(alloc, name)?;
-    Ok(Part {
-        of: String::from_str(alloc, name)?,
-        deep: String::from_str(alloc, "ℕ")?,
-        codec: format!(in alloc; "{snake}_around.codec $")?,
-        legal: format!(in alloc; "{snake}_step P")?,
-        layer: Some(format!(in alloc; "{snake}_around")?),
-        step: String::from_str(alloc, "$")?,
-        means: format!(in alloc; "{snake}_means $")?,
-        depth: String::from_str(alloc, "$")?,
+fn around(pen: &Pen, name: &str) -> Part {
+    let snake = snake_of(pen, name);
+    Part {
+        of: pen.copy(name),
+        deep: pen.copy("ℕ"),
+        codec: pen.one("{}_around.codec $", snake.as_str()),
+        legal: pen.one("{}_step P", snake.as_str()),
+        layer: Some(pen.one("{}_around", snake.as_str())),
+        step: pen.copy("$"),
+        means: pen.one("{}_means $", snake.as_str()),
+        depth: pen.copy("$"),
         is_cased: false,
-        means_same: Some(format!(in alloc; "{snake}_means_is $")?),
-        depth_same: Some(format!(in alloc; "{snake}_depth_is $")?),
-        weaker: String::new(alloc),
+        means_same: Some(pen.one("{}_means_is $", snake.as_str())),
+        depth_same: Some(pen.one("{}_depth_is $", snake.as_str())),
+        weaker: pen.empty(),
         agrees: None,
-    })
+    }
 }
 
 /// What is said of the type itself.
-fn itself(alloc: Global, names: &Names) -> Result<Part, AllocError> {
+fn itself(pen: &Pen, names: &Names) -> Part {
     let snake = names.snake.as_str();
-    Ok(Part {
-        of: String::from_str(alloc, "$")?,
-        deep: String::from_str(alloc, "ℕ")?,
-        codec: String::from_str(alloc, "$")?,
-        legal: String::from_str(alloc, "P")?,
-        layer: Some(String::from_str(alloc, "itself_layer")?),
-        step: String::from_str(alloc, "$")?,
-        means: format!(in alloc; "{snake}_means $")?,
-        depth: String::from_str(alloc, "suc $")?,
+    Part {
+        of: pen.copy("$"),
+        deep: pen.copy("ℕ"),
+        codec: pen.copy("$"),
+        legal: pen.copy("P"),
+        layer: Some(pen.copy("itself_layer")),
+        step: pen.copy("$"),
+        means: pen.one("{}_means $", snake),
+        depth: pen.copy("suc $"),
         is_cased: false,
         means_same: None,
         depth_same: None,
-        weaker: String::from_str(alloc, "x")?,
+        weaker: pen.copy("x"),
         agrees: None,
-    })
+    }
 }
 
 /// What is said of a type of Rust's.
-pub(crate) fn plain_part(alloc: Global, name: &str) -> Result<Part, AllocError> {
+pub(crate) fn plain_part(pen: &Pen, name: &str) -> Part {
     for (known, of, codec, means, legal) in PLAIN {
         if *known == name {
-            return other_part(alloc, (*of, *codec, *means, *legal));
+            return other_part(pen, (*of, *codec, *means, *legal));
         }
     }
-    nothing_part(alloc)
+    nothing_part(pen)
 }
 
 /// What is said of nothing.
-pub(crate) fn nothing_part(alloc: Global) -> Result<Part, AllocError> {
-    other_part(alloc, ("Unit {0}", "unit_codec", "nothing", "LegalUnit"))
+pub(crate) fn nothing_part(pen: &Pen) -> Part {
+    other_part(pen, ("Unit {0}", "unit_codec", "nothing", "LegalUnit"))
 }
 
 /// What is said of a type that holds no values of the type itself.
-pub(crate) fn other_part(
-    alloc: Global,
-    (of, codec, means, legal): (&str, &str, &str, &str),
-) -> Result<Part, AllocError> {
-    Ok(Part {
-        of: String::from_str(alloc, of)?,
-        deep: String::from_str(alloc, of)?,
-        codec: String::from_str(alloc, codec)?,
-        legal: String::from_str(alloc, legal)?,
+pub(crate) fn other_part(pen: &Pen, (of, codec, means, legal): (&str, &str, &str, &str)) -> Part {
+    Part {
+        of: pen.copy(of),
+        deep: pen.copy(of),
+        codec: pen.copy(codec),
+        legal: pen.copy(legal),
         layer: None,
-        step: String::from_str(alloc, means)?,
-        means: String::from_str(alloc, means)?,
-        depth: String::from_str(alloc, "0")?,
+        step: pen.copy(means),
+        means: pen.copy(means),
+        depth: pen.copy("0"),
         is_cased: false,
         means_same: None,
         depth_same: None,
-        weaker: format!(in alloc; "remains {}", atom(alloc, legal)?)?,
+        weaker: applied(pen, "remains", legal),
         agrees: None,
-    })
+    }
 }

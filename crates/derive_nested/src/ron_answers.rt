@@ -9,27 +9,23 @@ use crate::nested::Nested;
 use crate::ron_rows::{Written, fields_proof, struct_proof};
 use crate::text_codec::RON;
 use crate::text_fields::field_name;
+use derive_pen::Pen;
 use derive_syntax::Holes;
-use std::alloc::{AllocError, Global};
 
 /// The answers for what writes types that contain each other, or one that contains itself, where it
 /// is written by several calls.
-pub(crate) fn ron_writer(
-    alloc: Global,
-    members: &[Nested<'_>],
-    place: &Place<'_>,
-) -> Result<Option<Answers>, AllocError> {
-    let mut cited = String::new(alloc);
-    let mut answers = String::new(alloc);
+pub(crate) fn ron_writer(pen: &Pen, members: &[Nested<'_>], place: &Place<'_>) -> Option<Answers> {
+    let mut cited = pen.empty();
+    let mut answers = pen.empty();
     for nested in members {
-        append_answers(alloc, nested, &mut cited, &mut answers)?;
+        append_answers(pen, nested, &mut cited, &mut answers);
     }
     let (Some(nested), false) = (members.first(), answers.is_empty()) else {
-        return Ok(None);
+        return None;
     };
     let (folder, snake) = (place.folder.as_str(), nested.root().snake.as_str());
     let (library, stem, goals) = (place.library, place.stem.as_str(), place.goals.as_str());
-    let mut holes = nested.all_holes(alloc)?;
+    let mut holes = nested.all_holes(pen);
     holes.put("HEAD", HEAD);
     holes.put("LIBRARY", library);
     holes.put("STEM", stem);
@@ -37,32 +33,26 @@ pub(crate) fn ron_writer(
     holes.put("GOALS", goals);
     holes.put("LEMMAS", lemmas(members));
     holes.put("ANSWERS", answers.as_str());
-    Ok(Some(Answers {
-        path: format!(in alloc; "{folder}/+write_{snake}_ron/Answers.antt")?,
-        text: holes.fill(WRITER)?,
-    }))
+    Some(Answers {
+        path: pen.two("{}/+write_{}_ron/Answers.antt", folder, snake),
+        text: pen.whole(holes.fill(WRITER)),
+    })
 }
 
 /// Appends the answers for what writes a type, and the names that they cite.
-fn append_answers(
-    alloc: Global,
-    nested: &Nested<'_>,
-    cited: &mut String,
-    answers: &mut String,
-) -> Result<(), AllocError> {
+fn append_answers(pen: &Pen, nested: &Nested<'_>, cited: &mut String, answers: &mut String) {
     for held in &nested.contents {
         if nested.is_enum && !held.has_fields {
             continue;
         }
-        let names = names_of(alloc, nested, held)?;
-        let written = written_by(alloc, nested, (held, &names))?;
-        cited.push_str(if cited.is_empty() { "" } else { ", " })?;
-        cited.push_str(written.cited.as_str())?;
-        answers.push_str(answered(alloc, nested, &names, &written)?.as_str())?;
-        let late = late_ron_answers(alloc, nested, held, names.append.as_str())?;
-        answers.push_str(late.as_str())?;
+        let names = names_of(pen, nested, held);
+        let written = written_by(pen, nested, (held, &names));
+        pen.add_between(cited, ", ");
+        pen.add(cited, written.cited.as_str());
+        pen.add(answers, answered(pen, nested, &names, &written).as_str());
+        let late = late_ron_answers(pen, nested, held, names.append.as_str());
+        pen.add(answers, late.as_str());
     }
-    Ok(())
 }
 
 const WRITER: &str = "\
@@ -91,57 +81,47 @@ pub(crate) struct WriterNames {
 }
 
 /// The names of what writes a struct, or a variant.
-fn names_of(
-    alloc: Global,
-    nested: &Nested<'_>,
-    held: &Held<'_>,
-) -> Result<WriterNames, AllocError> {
+fn names_of(pen: &Pen, nested: &Nested<'_>, held: &Held<'_>) -> WriterNames {
     let name = nested.names.of.as_str();
-    let mut fields = Vec::new(alloc);
+    let mut fields = Vec::new(pen.alloc());
     for called in &held.called {
-        fields.push(field_name(alloc, nested, &RON, (held, called.as_str()))?)?;
+        pen.push(
+            &mut fields,
+            field_name(pen, nested, &RON, (held, called.as_str())),
+        );
     }
     if !nested.is_enum {
-        return Ok(WriterNames {
-            append: String::from_str(alloc, "append_record")?,
-            write: format!(in alloc; "{name}WritesRon::write_ron")?,
+        return WriterNames {
+            append: pen.copy("append_record"),
+            write: pen.one("{}WritesRon::write_ron", name),
             fields,
-        });
+        };
     }
-    let end = law_end(alloc, held)?;
-    Ok(WriterNames {
-        append: format!(in alloc; "append_{end}")?,
-        write: format!(in alloc; "{name}RonWriter::write_{end}")?,
+    let end = law_end(pen, held);
+    WriterNames {
+        append: pen.one("append_{}", end.as_str()),
+        write: pen.two("{}RonWriter::write_{}", name, end.as_str()),
         fields,
-    })
+    }
 }
 
 /// What is proved of what appends a struct, or a variant.
-fn written_by(
-    alloc: Global,
-    nested: &Nested<'_>,
-    (held, names): (&Held<'_>, &WriterNames),
-) -> Result<Written, AllocError> {
+fn written_by(pen: &Pen, nested: &Nested<'_>, (held, names): (&Held<'_>, &WriterNames)) -> Written {
     if !nested.is_enum {
-        return struct_proof(alloc, nested, (held, names));
+        return struct_proof(pen, nested, (held, names));
     }
-    fields_proof(alloc, (held, names))
+    fields_proof(pen, (held, names))
 }
 
 /// The answers for what writes it.
-fn answered(
-    alloc: Global,
-    nested: &Nested<'_>,
-    names: &WriterNames,
-    written: &Written,
-) -> Result<String, AllocError> {
+fn answered(pen: &Pen, nested: &Nested<'_>, names: &WriterNames, written: &Written) -> String {
     let WriterNames { append, write, .. } = names;
     let proof = written.proof.as_str();
-    let mut holes = nested.holes(alloc);
+    let mut holes = nested.holes(pen);
     holes.put("WRITE", write.as_str());
     holes.put("APPEND", append.as_str());
     holes.put("PROOF", proof);
-    holes.fill(ANSWERED)
+    pen.whole(holes.fill(ANSWERED))
 }
 
 const ANSWERED: &str = "

@@ -6,46 +6,41 @@ use crate::nested::Nested;
 use crate::text_codec::TextTerms;
 use crate::text_laws::written;
 use crate::wrapped::at;
-use std::alloc::{AllocError, Global};
+use derive_pen::Pen;
+use derive_syntax::Holes;
 
 /// The definitions of the texts of such variants, by their level and their fields.
-pub(crate) fn variant_texts(
-    alloc: Global,
-    nested: &Nested<'_>,
-    format: &TextTerms,
-) -> Result<String, AllocError> {
-    let mut text = String::new(alloc);
+pub(crate) fn variant_texts(pen: &Pen, nested: &Nested<'_>, format: &TextTerms) -> String {
+    let mut text = pen.empty();
     for held in &nested.contents {
         if nested.is_enum && held.has_fields {
-            text.push_str(variant_text(alloc, nested, format, held)?.as_str())?;
+            pen.add(&mut text, variant_text(pen, nested, format, held).as_str());
         }
     }
-    Ok(text)
+    text
 }
 
 /// The definition of the text of such a variant.
-fn variant_text(
-    alloc: Global,
-    nested: &Nested<'_>,
-    format: &TextTerms,
-    held: &Held<'_>,
-) -> Result<String, AllocError> {
+fn variant_text(pen: &Pen, nested: &Nested<'_>, format: &TextTerms, held: &Held<'_>) -> String {
     let (snake, infix) = (nested.names.snake.as_str(), format.coded.infix);
-    let name = format!(in alloc; "{snake}_{infix}of_{}", law_end(alloc, held)?)?;
-    let mut types = String::new(alloc);
+    let name = pen.three("{}_{}of_{}", snake, infix, law_end(pen, held).as_str());
+    let mut types = pen.empty();
     for leaf in &held.leaves {
-        let of = at(alloc, leaf.part.of.as_str(), nested.root().of.as_str())?;
-        types.push_str(format!(in alloc; " → {of}")?.as_str())?;
+        let of = at(pen, leaf.part.of.as_str(), nested.root().of.as_str());
+        pen.add(&mut types, pen.one(" → {}", of.as_str()).as_str());
     }
-    let values = held.values(alloc)?;
-    let written = written(alloc, nested, format, held)?;
-    format!(in alloc;
-        "
--- a value of `{}` as it is written
-abbrev pub {name} : ℕ{types} → List ℕ
-{name} d{values} =
-    {written}
-",
-        held.name
-    )
+    let mut holes = Holes::new(pen.alloc());
+    holes.put("OF", held.name.as_str());
+    holes.put("NAME", name.as_str());
+    holes.put("TYPES", types.as_str());
+    holes.put("VALUES", held.values(pen).as_str());
+    holes.put("WRITTEN", written(pen, nested, format, held).as_str());
+    pen.whole(holes.fill(VARIANT_TEXT))
 }
+
+const VARIANT_TEXT: &str = "
+-- a value of `$OF` as it is written
+abbrev pub $NAME : ℕ$TYPES → List ℕ
+$NAME d$VALUES =
+    $WRITTEN
+";

@@ -1,9 +1,9 @@
 //! What is said of the fields of a struct, or of what a variant holds: nested pairs of its parts.
 
 use crate::part::{Part, nothing_part};
-use crate::wrapped::{at, atom};
+use crate::wrapped::{applied_to_two, at, atom};
+use derive_pen::Pen;
 use derive_syntax::NestedPart;
-use std::alloc::{AllocError, Global};
 
 /// A part at its place.
 #[derive(Drop)]
@@ -36,132 +36,138 @@ pub(crate) struct Row {
 }
 
 /// The leaves as nested pairs: half of them, and the other half.
-pub(crate) fn row_of(alloc: Global, leaves: &[Leaf<'_>]) -> Result<Row, AllocError> {
+pub(crate) fn row_of(pen: &Pen, leaves: &[Leaf<'_>]) -> Row {
     if let [leaf] = leaves {
-        return row_of_one(alloc, &leaf.part, leaf.value.as_str(), leaf.legal.as_str());
+        return row_of_one(pen, &leaf.part, leaf.value.as_str(), leaf.legal.as_str());
     }
     let (first, second) = leaves.split_at(leaves.len() / 2);
     if leaves.is_empty() {
-        return row_of_one(alloc, &nothing_part(alloc)?, "(tt {0})", "refl");
+        return row_of_one(pen, &nothing_part(pen), "(tt {0})", "refl");
     }
-    let first = row_of(alloc, first)?;
-    let second = row_of(alloc, second)?;
-    both(alloc, &first, &second)
+    let first = row_of(pen, first);
+    let second = row_of(pen, second);
+    both(pen, &first, &second)
 }
 
 /// A row of one part.
-fn row_of_one(alloc: Global, part: &Part, value: &str, legal: &str) -> Result<Row, AllocError> {
-    let codec = atom(alloc, part.codec.as_str())?;
-    Ok(Row {
+fn row_of_one(pen: &Pen, part: &Part, value: &str, legal: &str) -> Row {
+    let codec = atom(pen, part.codec.as_str());
+    Row {
         part: Part {
-            of: part.of.clone()?,
-            deep: part.deep.clone()?,
-            codec: part.codec.clone()?,
-            legal: part.legal.clone()?,
-            layer: cloned(alloc, &part.layer)?,
-            step: at(alloc, part.step.as_str(), value)?,
-            means: at(alloc, part.means.as_str(), value)?,
-            depth: at(alloc, part.depth.as_str(), value)?,
+            of: pen.copy(part.of.as_str()),
+            deep: pen.copy(part.deep.as_str()),
+            codec: pen.copy(part.codec.as_str()),
+            legal: pen.copy(part.legal.as_str()),
+            layer: cloned(pen, &part.layer),
+            step: at(pen, part.step.as_str(), value),
+            means: at(pen, part.means.as_str(), value),
+            depth: at(pen, part.depth.as_str(), value),
             is_cased: false,
             means_same: None,
             depth_same: None,
-            weaker: part.weaker.clone()?,
+            weaker: pen.copy(part.weaker.as_str()),
             agrees: None,
         },
-        value: String::from_str(alloc, value)?,
-        written: format!(in alloc; "{codec}.canonical.written {value}")?,
-        legal: String::from_str(alloc, legal)?,
-    })
+        value: pen.copy(value),
+        written: pen.two("{}.canonical.written {}", codec.as_str(), value),
+        legal: pen.copy(legal),
+    }
 }
 
 /// A copy of a term, if there is one.
-fn cloned(alloc: Global, term: &Option<String>) -> Result<Option<String>, AllocError> {
+fn cloned(pen: &Pen, term: &Option<String>) -> Option<String> {
     match term {
-        Some(term) => Ok(Some(String::from_str(alloc, term.as_str())?)),
-        None => Ok(None),
+        Some(term) => Some(pen.copy(term.as_str())),
+        None => None,
     }
 }
 
 /// A pair of two rows.
-fn both(alloc: Global, first: &Row, second: &Row) -> Result<Row, AllocError> {
+fn both(pen: &Pen, first: &Row, second: &Row) -> Row {
     let (a, b) = (&first.part, &second.part);
-    Ok(Row {
-        part: Part {
-            of: format!(in alloc; "{} × {}", factor(alloc, a)?, factor(alloc, b)?)?,
-            deep: format!(in alloc; "{} × {}", a.deep, b.deep)?,
-            codec: format!(in alloc;
-                "pair_codec {} {}",
-                atom(alloc, a.codec.as_str())?,
-                atom(alloc, b.codec.as_str())?
-            )?,
-            legal: format!(in alloc;
-                "LegalPair {} {}",
-                atom(alloc, a.legal.as_str())?,
-                atom(alloc, b.legal.as_str())?
-            )?,
-            layer: both_layers(alloc, a, b)?,
-            step: format!(in alloc; "paired ({}, {})", a.step, b.step)?,
-            means: format!(in alloc; "paired ({}, {})", a.means, b.means)?,
-            depth: both_depths(alloc, a, b)?,
-            is_cased: false,
-            means_same: None,
-            depth_same: None,
-            weaker: format!(in alloc;
-                "pair_weaker _ _ _ _ {} {}",
-                atom(alloc, a.weaker.as_str())?,
-                atom(alloc, b.weaker.as_str())?
-            )?,
-            agrees: None,
-        },
-        value: format!(in alloc; "({}, {})", first.value, second.value)?,
-        written: format!(in alloc; "({}\n    ++ {})", first.written, second.written)?,
-        legal: format!(in alloc;
-            "(record {{ part = ({}, {}); has = ({}, {}); is = refl }})",
-            a.means, b.means, first.legal, second.legal
-        )?,
-    })
+    Row {
+        part: both_parts(pen, a, b),
+        value: pen.two("({}, {})", first.value.as_str(), second.value.as_str()),
+        written: pen.two(
+            "({}\n    ++ {})",
+            first.written.as_str(),
+            second.written.as_str(),
+        ),
+        legal: pen.four(
+            "(record { part = ({}, {}); has = ({}, {}); is = refl })",
+            a.means.as_str(),
+            b.means.as_str(),
+            first.legal.as_str(),
+            second.legal.as_str(),
+        ),
+    }
+}
+
+/// What is said of a pair.
+fn both_parts(pen: &Pen, a: &Part, b: &Part) -> Part {
+    let weaker = "pair_weaker _ _ _ _";
+    Part {
+        of: both_types(pen, a, b),
+        deep: pen.two("{} × {}", a.deep.as_str(), b.deep.as_str()),
+        codec: applied_to_two(pen, "pair_codec", a.codec.as_str(), b.codec.as_str()),
+        legal: applied_to_two(pen, "LegalPair", a.legal.as_str(), b.legal.as_str()),
+        layer: both_layers(pen, a, b),
+        step: pen.two("paired ({}, {})", a.step.as_str(), b.step.as_str()),
+        means: pen.two("paired ({}, {})", a.means.as_str(), b.means.as_str()),
+        depth: both_depths(pen, a, b),
+        is_cased: false,
+        means_same: None,
+        depth_same: None,
+        weaker: applied_to_two(pen, weaker, a.weaker.as_str(), b.weaker.as_str()),
+        agrees: None,
+    }
+}
+
+/// The type of a pair.
+fn both_types(pen: &Pen, a: &Part, b: &Part) -> String {
+    pen.two("{} × {}", factor(pen, a).as_str(), factor(pen, b).as_str())
 }
 
 /// A type as one of a pair.
-fn factor(alloc: Global, part: &Part) -> Result<String, AllocError> {
+fn factor(pen: &Pen, part: &Part) -> String {
     if part.of.contains(" × ") {
-        format!(in alloc; "({})", part.of)
+        pen.one("({})", part.of.as_str())
     } else {
-        part.of.clone()
+        pen.copy(part.of.as_str())
     }
 }
 
 /// The layer of a part, which is the codec of one that holds no values of the type itself.
-pub(crate) fn layer_of(alloc: Global, part: &Part) -> Result<String, AllocError> {
+pub(crate) fn layer_of(pen: &Pen, part: &Part) -> String {
     match &part.layer {
-        Some(layer) => layer.clone(),
+        Some(layer) => pen.copy(layer.as_str()),
         None => {
-            let codec = atom(alloc, part.codec.as_str())?;
-            format!(in alloc; "other_layer {codec}")
+            let codec = atom(pen, part.codec.as_str());
+            pen.one("other_layer {}", codec.as_str())
         }
     }
 }
 
 /// The layer of a pair, if one of its two has a layer.
-fn both_layers(alloc: Global, a: &Part, b: &Part) -> Result<Option<String>, AllocError> {
-    let first = atom(alloc, layer_of(alloc, a)?.as_str())?;
-    let second = atom(alloc, layer_of(alloc, b)?.as_str())?;
+fn both_layers(pen: &Pen, a: &Part, b: &Part) -> Option<String> {
+    let first = atom(pen, layer_of(pen, a).as_str());
+    let second = atom(pen, layer_of(pen, b).as_str());
     match (a.layer.is_some(), b.layer.is_some()) {
-        (false, false) => Ok(None),
+        (false, false) => None,
         (false, true) => {
-            let codec = atom(alloc, a.codec.as_str())?;
-            Ok(Some(format!(in alloc; "next_layer {codec} {second}")?))
+            let codec = atom(pen, a.codec.as_str());
+            Some(pen.two("next_layer {} {}", codec.as_str(), second.as_str()))
         }
-        _ => Ok(Some(format!(in alloc; "pair_layer {first} {second}")?)),
+        _ => Some(pen.two("pair_layer {} {}", first.as_str(), second.as_str())),
     }
 }
 
 /// How deep a pair is, where the values of the type itself are depths.
-fn both_depths(alloc: Global, a: &Part, b: &Part) -> Result<String, AllocError> {
+fn both_depths(pen: &Pen, a: &Part, b: &Part) -> String {
     if a.layer.is_none() {
-        return b.depth.clone();
+        return pen.copy(b.depth.as_str());
     }
-    let first = atom(alloc, a.depth.as_str())?;
-    let second = atom(alloc, b.depth.as_str())?;
-    format!(in alloc; "max {first} {second}")
+    let first = atom(pen, a.depth.as_str());
+    let second = atom(pen, b.depth.as_str());
+    pen.two("max {} {}", first.as_str(), second.as_str())
 }

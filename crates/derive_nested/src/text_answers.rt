@@ -4,34 +4,33 @@
 use crate::answers::{Answers, Goals, HEAD, Place, goals_of};
 use crate::nested::Nested;
 use crate::text_codec::TextTerms;
+use derive_pen::Pen;
 use derive_syntax::Holes;
-use std::alloc::{AllocError, Global};
 
 /// The answers for the readers of types in a format of texts, of which the last is the root.
 pub(crate) fn text_readers(
-    alloc: Global,
+    pen: &Pen,
     members: &[Nested<'_>],
     format: &TextTerms,
     place: &Place<'_>,
-) -> Result<Option<Answers>, AllocError> {
+) -> Option<Answers> {
     let Some(root) = members.last() else {
-        return Ok(None);
+        return None;
     };
-    let Goals {
-        path,
-        module,
-        prefix,
-    } = reader_goals(alloc, root, format, place)?;
-    let cited = format!(in alloc; "{}_{}", root.names.snake, format.name)?;
-    let mut answers = read_answers(alloc, root, (cited.as_str(), prefix.as_str()))?;
-    let mut brought = String::new(alloc);
+    let goals = reader_goals(pen, root, format, place);
+    let cited = pen.two("{}_{}", root.names.snake.as_str(), format.name);
+    let own = (cited.as_str(), goals.prefix.as_str());
+    let mut answers = read_answers(pen, root, own);
+    let mut brought = pen.empty();
     for nested in members {
         if nested.is_around() && nested.is_enum {
-            brought.push_str(around_lines(alloc, nested, format, place)?.as_str())?;
-            answers.push_str(around_answers(alloc, nested, format, place)?.as_str())?;
+            let more = around_lines(pen, nested, format, place);
+            pen.add(&mut brought, more.as_str());
+            let more = around_answers(pen, nested, format, place);
+            pen.add(&mut answers, more.as_str());
         }
     }
-    let mut holes = root.holes(alloc);
+    let mut holes = root.holes(pen);
     holes.put("HEAD", HEAD);
     holes.put("SUFFIX", format.name);
     holes.put("LIBRARY", place.library);
@@ -39,12 +38,12 @@ pub(crate) fn text_readers(
     holes.put("WORD", format.word);
     holes.put("CITED", cited.as_str());
     holes.put("BROUGHT", brought.as_str());
-    holes.put("GOALS", module.as_str());
+    holes.put("GOALS", goals.module.as_str());
     holes.put("ANSWERS", answers.as_str());
-    Ok(Some(Answers {
-        path,
-        text: holes.fill(READERS)?,
-    }))
+    Some(Answers {
+        path: goals.path,
+        text: pen.whole(holes.fill(READERS)),
+    })
 }
 
 const READERS: &str = "\
@@ -56,32 +55,22 @@ $BROUGHTuse $GOALS as goal
 $ANSWERS";
 
 /// The goals of the reader of a type in a format of texts.
-fn reader_goals(
-    alloc: Global,
-    nested: &Nested<'_>,
-    format: &TextTerms,
-    place: &Place<'_>,
-) -> Result<Goals, AllocError> {
-    let of = format!(in alloc; "LevelsReads{}{}", format.word, nested.names.of)?;
-    let function = format!(in alloc; "read_{}", format.name)?;
-    let end = format!(in alloc; "_{}", format.name)?;
+fn reader_goals(pen: &Pen, nested: &Nested<'_>, format: &TextTerms, place: &Place<'_>) -> Goals {
+    let of = pen.two("LevelsReads{}{}", format.word, nested.names.of.as_str());
+    let function = pen.one("read_{}", format.name);
+    let end = pen.one("_{}", format.name);
     let of = (of.as_str(), function.as_str(), "read", end.as_str());
-    goals_of(alloc, nested, place, of)
+    goals_of(pen, nested, place, of)
 }
 
 /// The lines that bring in what the answers for an enum cite that is a layer around values of the
 /// root.
-fn around_lines(
-    alloc: Global,
-    nested: &Nested<'_>,
-    format: &TextTerms,
-    place: &Place<'_>,
-) -> Result<String, AllocError> {
-    let mut holes = format.holes(alloc, nested)?;
+fn around_lines(pen: &Pen, nested: &Nested<'_>, format: &TextTerms, place: &Place<'_>) -> String {
+    let mut holes = format.holes(pen, nested);
     holes.put("LIBRARY", place.library);
     holes.put("STEM", place.stem.as_str());
     holes.put("WORD", format.word);
-    holes.fill(AROUND_LINES)
+    pen.whole(holes.fill(AROUND_LINES))
 }
 
 const AROUND_LINES: &str = "\
@@ -91,16 +80,11 @@ use Rattle.$LIBRARY.specs.$STEM$WORDCodecs.{$SNAKE_$INFIXlayer}
 ";
 
 /// The answers for the reader of an enum that is a layer around values of the root.
-fn around_answers(
-    alloc: Global,
-    nested: &Nested<'_>,
-    format: &TextTerms,
-    place: &Place<'_>,
-) -> Result<String, AllocError> {
-    let Goals { prefix, .. } = reader_goals(alloc, nested, format, place)?;
-    let mut holes = format.holes(alloc, nested)?;
+fn around_answers(pen: &Pen, nested: &Nested<'_>, format: &TextTerms, place: &Place<'_>) -> String {
+    let Goals { prefix, .. } = reader_goals(pen, nested, format, place);
+    let mut holes = format.holes(pen, nested);
     holes.put("OWN", prefix.as_str());
-    holes.fill(AROUND_ANSWERS)
+    pen.whole(holes.fill(AROUND_ANSWERS))
 }
 
 const AROUND_ANSWERS: &str = "
@@ -115,23 +99,19 @@ $OWNreturns-in-Err t c = c.in-Err.ensures.none
 
 /// The answers for the reader of a type whose definitions in the format, and the names of whose
 /// goals, begin so.
-fn read_answers(
-    alloc: Global,
-    nested: &Nested<'_>,
-    (cited, prefix): (&str, &str),
-) -> Result<String, AllocError> {
+fn read_answers(pen: &Pen, nested: &Nested<'_>, (cited, prefix): (&str, &str)) -> String {
     let (read, none) = if nested.is_enum {
         ("c.in-Ok.ensures.read", "c.in-Err.ensures.none")
     } else {
         ("c.in-Ok.ensures", "c.in-Err.ensures")
     };
-    let mut holes = Holes::new(alloc);
+    let mut holes = Holes::new(pen.alloc());
     holes.put("CITED", cited);
     holes.put("OWN", prefix);
     holes.put("TOO_DEEP", nested.too_deep);
     holes.put("READ", read);
     holes.put("NONE", none);
-    holes.fill(READ_ANSWERS)
+    pen.whole(holes.fill(READ_ANSWERS))
 }
 
 const READ_ANSWERS: &str = "

@@ -4,14 +4,12 @@
 use crate::coded::{Coded, nested_record};
 use crate::definitions::{equation, root_first};
 use crate::generic_agreement::agreement;
-use crate::held::Held;
 use crate::nested::Nested;
 use crate::others::Said;
 use crate::ron_contents::variant_texts;
-use crate::text_layers::{content_layer, content_layers, row_layer};
-use crate::wrapped::atom;
+use crate::text_layers::{content_layers, layers};
+use derive_pen::Pen;
 use derive_syntax::Holes;
-use std::alloc::{AllocError, Global};
 
 /// A format of texts, as ghost terms.
 #[derive(Clone, Copy)]
@@ -44,11 +42,11 @@ pub(crate) struct TextTerms {
 
 impl TextTerms {
     /// The holes of templates in which the names of a type and of the format stand.
-    pub(crate) fn holes(&self, alloc: Global, nested: &Nested<'_>) -> Result<Holes, AllocError> {
-        let mut holes = nested.all_holes(alloc)?;
+    pub(crate) fn holes(&self, pen: &Pen, nested: &Nested<'_>) -> Holes {
+        let mut holes = nested.all_holes(pen);
         holes.put("SUFFIX", self.name);
         holes.put("INFIX", self.coded.infix);
-        Ok(holes)
+        holes
     }
 }
 
@@ -100,36 +98,41 @@ pub(crate) const RON: TextTerms = TextTerms {
 /// itself. Given is the format before it, of which what is legal is known: bytes, or another format
 /// of texts.
 pub(crate) fn text_codecs(
-    alloc: Global,
+    pen: &Pen,
     members: &[Nested<'_>],
     format: &TextTerms,
     before: Option<&str>,
-) -> Result<String, AllocError> {
-    let mut text = String::new(alloc);
+) -> String {
+    let mut text = pen.empty();
     for nested in members {
-        text.push_str(layer(alloc, nested, format)?.as_str())?;
-        text.push_str(nested_record(alloc, nested, format.coded)?.as_str())?;
+        pen.add(&mut text, layer(pen, nested, format).as_str());
+        pen.add(&mut text, nested_record(pen, nested, format.coded).as_str());
     }
-    for nested in root_first(alloc, members)? {
-        let codec = if nested.is_around() {
-            around(alloc, nested, format)?
-        } else {
-            codec(alloc, nested, format, before)?
-        };
-        text.push_str(codec.as_str())?;
-        if format.name == RON.name {
-            text.push_str(variant_texts(alloc, nested, format)?.as_str())?;
-        }
+    for nested in root_first(pen, members) {
+        pen.add(&mut text, own_codecs(pen, nested, format, before).as_str());
     }
-    Ok(text)
+    text
+}
+
+/// The codecs of a type, and in RON the texts of its variants.
+fn own_codecs(pen: &Pen, nested: &Nested<'_>, format: &TextTerms, before: Option<&str>) -> String {
+    let mut text = if nested.is_around() {
+        around(pen, nested, format)
+    } else {
+        codec(pen, nested, format, before)
+    };
+    if format.name == RON.name {
+        pen.add(&mut text, variant_texts(pen, nested, format).as_str());
+    }
+    text
 }
 
 /// The codecs of a type that is a layer around values of the root.
-fn around(alloc: Global, nested: &Nested<'_>, format: &TextTerms) -> Result<String, AllocError> {
-    let mut holes = format.holes(alloc, nested)?;
-    let codec = holes.fill(if nested.is_enum { CHOICE } else { RECORD })?;
+fn around(pen: &Pen, nested: &Nested<'_>, format: &TextTerms) -> String {
+    let mut holes = format.holes(pen, nested);
+    let codec = pen.whole(holes.fill(if nested.is_enum { CHOICE } else { RECORD }));
     holes.put("CODED", codec.as_str());
-    holes.fill(AROUND)
+    pen.whole(holes.fill(AROUND))
 }
 
 const AROUND: &str = "
@@ -149,9 +152,9 @@ const CHOICE: &str = "
     ($BASE_$INFIXat $LIMIT) refl";
 
 /// The layer around values of the type itself.
-fn layer(alloc: Global, nested: &Nested<'_>, format: &TextTerms) -> Result<String, AllocError> {
-    let contents = content_layers(alloc, nested, format)?;
-    let layers = layers(alloc, nested, format)?;
+fn layer(pen: &Pen, nested: &Nested<'_>, format: &TextTerms) -> String {
+    let contents = content_layers(pen, nested, format);
+    let layers = layers(pen, nested, format);
     let (kind, rows, made) = if nested.is_enum {
         ("variants", "VariantsLayer", "choice_layer")
     } else {
@@ -162,7 +165,7 @@ fn layer(alloc: Global, nested: &Nested<'_>, format: &TextTerms) -> Result<Strin
     } else {
         (format.fields, format.names)
     };
-    let mut holes = format.holes(alloc, nested)?;
+    let mut holes = format.holes(pen, nested);
     holes.put("OF", format.coded.of);
     holes.put("CONTENTS", contents.as_str());
     holes.put("LAYERS", layers.as_str());
@@ -171,7 +174,7 @@ fn layer(alloc: Global, nested: &Nested<'_>, format: &TextTerms) -> Result<Strin
     holes.put("MADE", made);
     holes.put("STYLE", style);
     holes.put("WRITABLE", names);
-    holes.fill(LAYER)
+    pen.whole(holes.fill(LAYER))
 }
 
 const LAYER: &str = "
@@ -185,79 +188,38 @@ abbrev pub $SNAKE_$INFIXlayer : Layer $OF$ROOT ($NAMEContent $ROOT)
 $SNAKE_$INFIXlayer = $MADE $SNAKE_$INFIX$KIND (λ f. $WRITABLE) (λ f. refl)
 ";
 
-/// The layer of the fields of a struct, or those of the variants.
-fn layers(alloc: Global, nested: &Nested<'_>, format: &TextTerms) -> Result<String, AllocError> {
-    let mut text: Option<String> = None;
-    for held in nested.contents.iter().rev() {
-        text = match text {
-            _ if !nested.is_enum => Some(row_layer(alloc, format, &held.leaves)?),
-            None => Some(variant(alloc, nested, format, (held, "last", ""))?),
-            Some(rest) => {
-                let rest = format!(in alloc; "\n    ({rest})")?;
-                Some(variant(alloc, nested, format, (held, "next", rest.as_str()))?)
-            }
-        };
-    }
-    match text {
-        Some(text) => Ok(text),
-        None => String::from_str(alloc, "itself_layer"),
-    }
-}
-
-/// The layer of a variant, the last one or the next one with the rest.
-fn variant(
-    alloc: Global,
-    nested: &Nested<'_>,
-    format: &TextTerms,
-    (held, kind, rest): (&Held<'_>, &str, &str),
-) -> Result<String, AllocError> {
-    let (style, name) = (format.variants, held.key.as_str());
-    let snake = nested.names.snake.as_str();
-    match content_layer(alloc, format, snake, held)? {
-        None => format!(in alloc; "{kind}_unit {style} (codes \"{name}\"){rest}"),
-        Some(layer) => {
-            let layer = atom(alloc, layer.as_str())?;
-            format!(in alloc;
-                "{kind}_variant {style} (codes \"{name}\") {layer} ({}){rest}",
-                format.fits
-            )
-        }
-    }
-}
-
 /// The codec of the values of so many levels, and that of the values that are read.
-fn codec(
-    alloc: Global,
-    nested: &Nested<'_>,
-    format: &TextTerms,
-    before: Option<&str>,
-) -> Result<String, AllocError> {
-    let mut holes = format.holes(alloc, nested)?;
+fn codec(pen: &Pen, nested: &Nested<'_>, format: &TextTerms, before: Option<&str>) -> String {
+    let mut holes = format.holes(pen, nested);
     let Some(before) = before else {
-        return holes.fill(ALONE);
+        return pen.whole(holes.fill(ALONE));
     };
     if nested.is_generic() {
-        let mut text = holes.fill(ALONE)?;
-        text.push_str(agreement(alloc, nested, format, before)?.as_str())?;
-        return Ok(text);
+        let mut text = pen.whole(holes.fill(ALONE));
+        pen.add(&mut text, agreement(pen, nested, format, before).as_str());
+        return text;
     }
     let (snake, limit) = (nested.names.snake.as_str(), nested.limit);
     let (codec, agrees) = if before == "bin" {
         (
-            format!(in alloc; "{snake}_codec")?,
-            format!(in alloc; "bin_agrees {snake}_nested {snake}_step (λ f. refl)")?,
+            pen.one("{}_codec", snake),
+            pen.two("bin_agrees {}_nested {}_step (λ f. refl)", snake, snake),
         )
     } else {
         (
-            format!(in alloc; "{snake}_{before}")?,
-            format!(in alloc;
-                "nested_agrees {snake}_{before}_nested {snake}_step (λ f. refl) {limit}"
-            )?,
+            pen.two("{}_{}", snake, before),
+            pen.four(
+                "nested_agrees {}_{}_nested {}_step (λ f. refl) {}",
+                snake,
+                before,
+                snake,
+                limit,
+            ),
         )
     };
     holes.put("CODEC", codec.as_str());
     holes.put("AGREES", agrees.as_str());
-    holes.fill(LATER)
+    pen.whole(holes.fill(LATER))
 }
 
 /// The codecs of a format that alone says what is legal, or does so before others.

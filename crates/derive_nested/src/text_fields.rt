@@ -6,53 +6,59 @@ use crate::nested::Nested;
 use crate::text_codec::TextTerms;
 use crate::text_layers::field_codec;
 use crate::wrapped::at;
-use std::alloc::{AllocError, Global};
+use derive_pen::Pen;
+use derive_syntax::Holes;
 
 /// The definitions of what each field of a struct or of a variant is written as.
 pub(crate) fn field_definitions(
-    alloc: Global,
+    pen: &Pen,
     nested: &Nested<'_>,
     format: &TextTerms,
     held: &Held<'_>,
-) -> Result<String, AllocError> {
-    let itself = format!(in alloc; "{}_{}", nested.root().snake, format.name)?;
-    let mut text = String::new(alloc);
+) -> String {
+    let itself = pen.two("{}_{}", nested.root().snake.as_str(), format.name);
+    let mut text = pen.empty();
     for (leaf, called) in held.leaves.iter().zip(held.called.iter()) {
-        let codec = field_codec(alloc, leaf, itself.as_str())?;
-        let defined = field_name(alloc, nested, format, (held, called.as_str()))?;
+        let codec = field_codec(pen, leaf, itself.as_str());
+        let defined = field_name(pen, nested, format, (held, called.as_str()));
         let (of, value) = if nested.is_enum {
             (
-                at(alloc, leaf.part.of.as_str(), nested.root().of.as_str())?,
+                at(pen, leaf.part.of.as_str(), nested.root().of.as_str()),
                 "x",
             )
         } else {
-            (nested.names.of.clone()?, leaf.value.as_str())
+            (pen.copy(nested.names.of.as_str()), leaf.value.as_str())
         };
-        let definition = format!(in alloc;
-            "
-abbrev pub {defined} : {of} → List (WrittenField Token)
-{defined} x =
-    ({codec}).canonical.fields {value}
-"
-        )?;
-        text.push_str(definition.as_str())?;
+        let mut holes = Holes::new(pen.alloc());
+        holes.put("NAME", defined.as_str());
+        holes.put("OF", of.as_str());
+        holes.put("CODEC", codec.as_str());
+        holes.put("VALUE", value);
+        let definition = pen.whole(holes.fill(FIELD));
+        pen.add(&mut text, definition.as_str());
     }
-    Ok(text)
+    text
 }
+
+const FIELD: &str = "
+abbrev pub $NAME : $OF → List (WrittenField Token)
+$NAME x =
+    ($CODEC).canonical.fields $VALUE
+";
 
 /// The name of what a field is written as, which is called so.
 pub(crate) fn field_name(
-    alloc: Global,
+    pen: &Pen,
     nested: &Nested<'_>,
     format: &TextTerms,
     (held, called): (&Held<'_>, &str),
-) -> Result<String, AllocError> {
+) -> String {
     let (snake, infix) = (nested.names.snake.as_str(), format.coded.infix);
     if nested.is_enum {
-        let end = law_end(alloc, held)?;
-        return format!(in alloc; "{snake}_{infix}field_{end}_{called}");
+        let end = law_end(pen, held);
+        return pen.four("{}_{}field_{}_{}", snake, infix, end.as_str(), called);
     }
-    format!(in alloc; "{snake}_{infix}field_{called}")
+    pen.three("{}_{}field_{}", snake, infix, called)
 }
 
 /// Whether a struct or a variant has so many named fields that the first half are several.

@@ -8,95 +8,105 @@ use crate::nested::Nested;
 use crate::text_codec::TextTerms;
 use crate::text_fields::field_definitions;
 use crate::text_layers::content_name;
-use crate::wrapped::{at, atom};
-use std::alloc::{AllocError, Global};
+use crate::wrapped::{applied, at, atom};
+use derive_pen::Pen;
 
 /// The laws of a type, whose first format it is or not.
 pub(crate) fn text_laws(
-    alloc: Global,
+    pen: &Pen,
     nested: &Nested<'_>,
     format: &TextTerms,
     is_first: bool,
-) -> Result<String, AllocError> {
-    let mut text = format!(in alloc; "\n-- ==== {}\n", nested.names.of)?;
+) -> String {
+    let mut text = pen.one("\n-- ==== {}\n", nested.names.of.as_str());
     for (i, held) in nested.contents.iter().enumerate() {
         let law = if nested.is_enum {
-            variant_law(alloc, nested, format, (held, i))?
+            variant_law(pen, nested, format, (held, i))
         } else {
-            struct_law(alloc, nested, format, held)?
+            struct_law(pen, nested, format, held)
         };
         if nested.is_enum && held.has_fields {
-            text.push_str(field_definitions(alloc, nested, format, held)?.as_str())?;
+            pen.add(
+                &mut text,
+                field_definitions(pen, nested, format, held).as_str(),
+            );
         }
-        text.push_str(law.as_str())?;
+        pen.add(&mut text, law.as_str());
         if is_first {
-            text.push_str(legal_law(alloc, nested, format, (held, i))?.as_str())?;
+            pen.add(
+                &mut text,
+                legal_law(pen, nested, format, (held, i)).as_str(),
+            );
         }
     }
     if nested.is_enum {
-        text.push_str(texts(alloc, nested, format)?.as_str())?;
+        pen.add(&mut text, texts(pen, nested, format).as_str());
     }
-    Ok(text)
+    text
 }
 
 /// That a variant at its place is legal, or the struct.
 fn legal_law(
-    alloc: Global,
+    pen: &Pen,
     nested: &Nested<'_>,
     format: &TextTerms,
     (held, i): (&Held<'_>, usize),
-) -> Result<String, AllocError> {
+) -> String {
     let (snake, end, infix) = (nested.names.snake.as_str(), format.name, format.coded.infix);
     let law = if nested.is_around() {
-        format!(in alloc; "layer_legal {}", layer_of(alloc, nested, format)?)?
+        pen.one("layer_legal {}", layer_of(pen, nested, format).as_str())
     } else {
-        format!(in alloc; "legal_seen {snake}_{infix}nested {}", nested.limit)?
+        pen.three("legal_seen {}_{}nested {}", snake, infix, nested.limit)
     };
     let known = Known {
-        codec: format!(in alloc; "{snake}_{end}")?,
-        within: format!(in alloc; "{}_{end}", nested.root().snake)?,
+        codec: pen.two("{}_{}", snake, end),
+        within: pen.two("{}_{}", nested.root().snake.as_str(), end),
         law,
     };
     if nested.is_enum {
-        variant_legal(alloc, nested, (held, i), &known)
+        variant_legal(pen, nested, (held, i), &known)
     } else {
-        struct_legal(alloc, nested, held, &known)
+        struct_legal(pen, nested, held, &known)
     }
 }
 
 /// How a type is seen that is around values of the root, its layer, and the codec of the root.
-fn layer_of(alloc: Global, nested: &Nested<'_>, format: &TextTerms) -> Result<String, AllocError> {
-    format.holes(alloc, nested)?.fill(LAYER)
+fn layer_of(pen: &Pen, nested: &Nested<'_>, format: &TextTerms) -> String {
+    pen.whole(format.holes(pen, nested).fill(LAYER))
 }
 
 const LAYER: &str = "$SNAKE_view $SNAKE_$INFIXlayer $BASE_$SUFFIX";
 
 /// The laws by which an enum is written, as a set.
-fn texts(alloc: Global, nested: &Nested<'_>, format: &TextTerms) -> Result<String, AllocError> {
+fn texts(pen: &Pen, nested: &Nested<'_>, format: &TextTerms) -> String {
     let (snake, infix) = (nested.names.snake.as_str(), format.coded.infix);
-    let mut names = String::new(alloc);
+    let mut names = pen.empty();
     for held in &nested.contents {
-        names.push_str(if names.is_empty() { "" } else { ", " })?;
-        let end = law_end(alloc, held)?;
-        names.push_str(format!(in alloc; "{snake}_{infix}text_{end}")?.as_str())?;
+        pen.add_between(&mut names, ", ");
+        let end = law_end(pen, held);
+        pen.add(
+            &mut names,
+            pen.three("{}_{}text_{}", snake, infix, end.as_str())
+                .as_str(),
+        );
     }
-    format!(in alloc; "\npub ruleset {snake}_{infix}texts = ({names})\n")
+    pen.three(
+        "\npub ruleset {}_{}texts = ({})\n",
+        snake,
+        infix,
+        names.as_str(),
+    )
 }
 
 /// How a struct is written.
-fn struct_law(
-    alloc: Global,
-    nested: &Nested<'_>,
-    format: &TextTerms,
-    held: &Held<'_>,
-) -> Result<String, AllocError> {
-    let parts = field_definitions(alloc, nested, format, held)?;
-    let mut holes = format.holes(alloc, nested)?;
-    let proof = holes.fill(if nested.is_around() { "refl" } else { TEXT })?;
+fn struct_law(pen: &Pen, nested: &Nested<'_>, format: &TextTerms, held: &Held<'_>) -> String {
+    let parts = field_definitions(pen, nested, format, held);
+    let mut holes = format.holes(pen, nested);
+    let proof = pen.whole(holes.fill(if nested.is_around() { "refl" } else { TEXT }));
     holes.put("PARTS", parts.as_str());
     holes.put("STYLE", format.fields);
     holes.put("PROOF", proof.as_str());
-    holes.fill(STRUCT_LAW)
+    pen.whole(holes.fill(STRUCT_LAW))
 }
 
 const TEXT: &str = "text_seen $SNAKE_$INFIXnested $LIMIT d x ($SNAKE_view x) refl";
@@ -113,30 +123,31 @@ $SNAKE_$INFIXtext d x = $PROOF
 
 /// How a variant at its place is written.
 fn variant_law(
-    alloc: Global,
+    pen: &Pen,
     nested: &Nested<'_>,
     format: &TextTerms,
     (held, i): (&Held<'_>, usize),
-) -> Result<String, AllocError> {
-    let Variant { value, seen, view } = variant_at(alloc, nested, held, i)?;
-    let (end, values) = (law_end(alloc, held)?, held.values(alloc)?);
-    let parts = binders(alloc, nested, held)?;
-    let written = written(alloc, nested, format, held)?;
-    let law = if nested.is_around() {
-        format!(in alloc; "layer_text {}", layer_of(alloc, nested, format)?)?
-    } else {
-        format.holes(alloc, nested)?.fill(NESTED)?
-    };
-    let mut holes = format.holes(alloc, nested)?;
-    holes.put("LAW", law.as_str());
-    holes.put("END", end.as_str());
-    holes.put("PARTS", parts.as_str());
+) -> String {
+    let Variant { value, seen, view } = variant_at(pen, nested, held, i);
+    let mut holes = format.holes(pen, nested);
+    holes.put("LAW", law_of(pen, nested, format).as_str());
+    holes.put("END", law_end(pen, held).as_str());
+    holes.put("PARTS", binders(pen, nested, held).as_str());
     holes.put("VALUE", value.as_str());
-    holes.put("WRITTEN", written.as_str());
-    holes.put("GIVEN", values.as_str());
-    holes.put("SEEN", atom(alloc, seen.as_str())?.as_str());
-    holes.put("VIEW", atom(alloc, view.as_str())?.as_str());
-    holes.fill(VARIANT_LAW)
+    holes.put("WRITTEN", written(pen, nested, format, held).as_str());
+    holes.put("GIVEN", held.values(pen).as_str());
+    holes.put("SEEN", atom(pen, seen.as_str()).as_str());
+    holes.put("VIEW", atom(pen, view.as_str()).as_str());
+    pen.whole(holes.fill(VARIANT_LAW))
+}
+
+/// What says how a value is written, by what it is seen as.
+fn law_of(pen: &Pen, nested: &Nested<'_>, format: &TextTerms) -> String {
+    if nested.is_around() {
+        pen.one("layer_text {}", layer_of(pen, nested, format).as_str())
+    } else {
+        pen.whole(format.holes(pen, nested).fill(NESTED))
+    }
 }
 
 const NESTED: &str = "text_seen $SNAKE_$INFIXnested $LIMIT";
@@ -151,45 +162,60 @@ $SNAKE_$INFIXtext_$END d$GIVEN =
 
 /// The text of a variant.
 pub(crate) fn written(
-    alloc: Global,
+    pen: &Pen,
     nested: &Nested<'_>,
     format: &TextTerms,
     held: &Held<'_>,
-) -> Result<String, AllocError> {
+) -> String {
     let snake = nested.names.snake.as_str();
-    let itself = format!(in alloc; "{}_{}", nested.root().snake, format.name)?;
+    let itself = pen.two("{}_{}", nested.root().snake.as_str(), format.name);
     let (name, value) = (held.key.as_str(), held.row.value.as_str());
     if held.has_fields {
-        let layer = content_name(alloc, format, snake, held)?;
-        return format!(in alloc;
-            "content_text (codes \"{name}\") (({layer}.codec {itself}).canonical.text d {value})"
+        let layer = content_name(pen, format, snake, held);
+        return pen.four(
+            "content_text (codes \"{}\") (({}.codec {}).canonical.text d {})",
+            name,
+            layer.as_str(),
+            itself.as_str(),
+            value,
         );
     }
-    let mut codec = match held.leaves.len() {
-        0 => return format!(in alloc; "{} (codes \"{name}\")", format.alone),
-        1 => String::from_str(alloc, "single_codec")?,
-        2 => String::from_str(alloc, "pair_codec")?,
-        _ => String::from_str(alloc, "triple_codec")?,
-    };
-    for leaf in &held.leaves {
-        let part = at(alloc, leaf.part.codec.as_str(), itself.as_str())?;
-        codec.push(' ')?;
-        codec.push_str(atom(alloc, part.as_str())?.as_str())?;
+    if held.leaves.is_empty() {
+        return pen.two("{} (codes \"{}\")", format.alone, name);
     }
-    let value = tuple_of(alloc, held)?;
-    format!(in alloc; "content_text (codes \"{name}\") (({codec}).canonical.text d {value})")
+    pen.three(
+        "content_text (codes \"{}\") (({}).canonical.text d {})",
+        name,
+        tuple_codec(pen, held, itself.as_str()).as_str(),
+        tuple_of(pen, held).as_str(),
+    )
+}
+
+/// The codec of the parts of a variant, where this is the codec of the type itself.
+fn tuple_codec(pen: &Pen, held: &Held<'_>, itself: &str) -> String {
+    let mut codec = pen.copy(match held.leaves.len() {
+        1 => "single_codec",
+        2 => "pair_codec",
+        _ => "triple_codec",
+    });
+    for leaf in &held.leaves {
+        let part = at(pen, leaf.part.codec.as_str(), itself);
+        codec = applied(pen, codec.as_str(), part.as_str());
+    }
+    codec
 }
 
 /// The parts of a variant as one tuple.
-fn tuple_of(alloc: Global, held: &Held<'_>) -> Result<String, AllocError> {
+fn tuple_of(pen: &Pen, held: &Held<'_>) -> String {
     if let [leaf] = held.leaves.as_slice() {
-        return leaf.value.clone();
+        return pen.copy(leaf.value.as_str());
     }
-    let mut text = String::new(alloc);
+    let mut text = pen.empty();
     for leaf in &held.leaves {
-        text.push_str(if text.is_empty() { "(" } else { ", " })?;
-        text.push_str(leaf.value.as_str())?;
+        let before = if text.is_empty() { "(" } else { ", " };
+        pen.add(&mut text, before);
+        pen.add(&mut text, leaf.value.as_str());
     }
-    text.push(')')?;
-    Ok(text)
+    pen.add(&mut text, ")");
+    text
 }

@@ -1,7 +1,7 @@
 //! The words of a text that stand for others: a name of a definition of a type with parameters, for
 //! that name with what it is given.
 
-use std::alloc::{AllocError, Global};
+use derive_pen::Pen;
 
 /// Words, and what stands in their place.
 #[derive(Drop)]
@@ -23,82 +23,81 @@ struct Word {
 
 impl Words {
     /// No words.
-    pub(crate) fn new(alloc: Global) -> Words {
+    pub(crate) fn new(pen: &Pen) -> Words {
         Words {
-            whole: Vec::new(alloc),
-            begun: Vec::new(alloc),
-            own: Vec::new(alloc),
+            whole: Vec::new(pen.alloc()),
+            begun: Vec::new(pen.alloc()),
+            own: Vec::new(pen.alloc()),
         }
     }
 
     /// Puts a text in the place of a word.
-    pub(crate) fn put(&mut self, word: String, text: String) -> Result<(), AllocError> {
-        Ok(self.whole.push(Word { word, text })?)
+    pub(crate) fn put(&mut self, pen: &Pen, word: String, text: String) {
+        pen.push(&mut self.whole, Word { word, text });
     }
 
     /// Gives something to the names that begin so.
-    pub(crate) fn give(&mut self, word: String, text: String) -> Result<(), AllocError> {
-        Ok(self.begun.push(Word { word, text })?)
+    pub(crate) fn give(&mut self, pen: &Pen, word: String, text: String) {
+        pen.push(&mut self.begun, Word { word, text });
     }
 
     /// Lets the names stand as they are that a text defines.
-    pub(crate) fn leave_defined(&mut self, alloc: Global, text: &str) -> Result<(), AllocError> {
+    pub(crate) fn leave_defined(&mut self, pen: &Pen, text: &str) {
         for line in text.split('\n') {
             let (name, rest) = defined(line).split_once(' ').unwrap_or((line, ""));
             if rest.starts_with(": ") {
-                self.own.push(String::from_str(alloc, name)?)?;
+                pen.push(&mut self.own, pen.copy(name));
             }
         }
-        Ok(())
     }
 
     /// A line with what stands for its words. A comment stands as it is, and so does what is
     /// between quotes, and a word after a caret, which is left out.
-    pub(crate) fn reworded(&self, alloc: Global, line: &str) -> Result<String, AllocError> {
+    pub(crate) fn reworded(&self, pen: &Pen, line: &str) -> String {
         if line.starts_with("--") || line.starts_with("use ") {
-            return String::from_str(alloc, line);
+            return pen.copy(line);
         }
-        let mut text = String::new(alloc);
-        let mut word = String::new(alloc);
+        let mut text = pen.empty();
+        let mut word = pen.empty();
         let mut is_quoted = false;
         let mut is_bare = false;
         for c in line.chars() {
             if is_of_word(c) {
-                word.push(c)?;
+                pen.add_char(&mut word, c);
                 continue;
             }
             let stands = is_quoted || is_bare;
-            text.push_str(self.placed(alloc, word.as_str(), stands)?.as_str())?;
+            pen.add(&mut text, self.placed(pen, word.as_str(), stands).as_str());
             word.clear();
             is_quoted = is_quoted != (c == '"');
             is_bare = c == '^';
             if !is_bare {
-                text.push(c)?;
+                pen.add_char(&mut text, c);
             }
         }
-        text.push_str(self.placed(alloc, word.as_str(), is_bare)?.as_str())?;
-        Ok(text)
+        pen.add(&mut text, self.placed(pen, word.as_str(), is_bare).as_str());
+        text
     }
 
     /// What stands in the place of a word with its fields, or the word, if it stands as it is.
-    fn placed(&self, alloc: Global, word: &str, stands: bool) -> Result<String, AllocError> {
+    fn placed(&self, pen: &Pen, word: &str, stands: bool) -> String {
         if stands {
-            return String::from_str(alloc, word);
+            return pen.copy(word);
         }
         if let Some(text) = self.found(word) {
-            return String::from_str(alloc, text);
+            return pen.copy(text);
         }
         let (name, fields) = word.split_once('.').unwrap_or((word, ""));
         let dot = if name.len() < word.len() { "." } else { "" };
         if fields.starts_with(|c: char| c.is_ascii_uppercase()) {
-            return String::from_str(alloc, word);
+            return pen.copy(word);
         }
         if let Some(text) = self.found(name) {
-            return format!(in alloc; "{text}{dot}{fields}");
+            return pen.three("{}{}{}", text, dot, fields);
         }
         match self.given(name) {
-            Some(given) => format!(in alloc; "({name} {given}){dot}{fields}"),
-            None => String::from_str(alloc, word),
+            Some(given) => pen.four("({} {}){}{}", name, given, dot, fields),
+            None => pen.copy(word),
         }
     }
 

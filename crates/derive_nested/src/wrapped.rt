@@ -3,172 +3,183 @@
 use crate::containers::container_part;
 use crate::maps::mapped;
 use crate::part::{Names, Part, core_part, nothing_part};
+use derive_pen::Pen;
 use derive_syntax::{Core, Holder, NestedPart};
-use std::alloc::{AllocError, Global};
 
 /// What is said of a part.
-pub(crate) fn part_of(
-    alloc: Global,
-    names: &Names,
-    nested: &NestedPart<'_>,
-) -> Result<Part, AllocError> {
-    part_within(alloc, names, nested, nested.depth)
+pub(crate) fn part_of(pen: &Pen, names: &Names, nested: &NestedPart<'_>) -> Part {
+    part_within(pen, names, nested, nested.depth)
 }
 
 /// What is said of a part in which collections stand in one another so deep at most.
-fn part_within(
-    alloc: Global,
-    names: &Names,
-    nested: &NestedPart<'_>,
-    depth: usize,
-) -> Result<Part, AllocError> {
-    let mut parts = Vec::new(alloc);
+fn part_within(pen: &Pen, names: &Names, nested: &NestedPart<'_>, depth: usize) -> Part {
+    let mut parts = Vec::new(pen.alloc());
     for held in &nested.parts {
         if depth == 0 {
-            return nothing_part(alloc);
+            return nothing_part(pen);
         }
-        parts.push(part_within(alloc, names, held, depth - 1)?)?;
+        pen.push(&mut parts, part_within(pen, names, held, depth - 1));
     }
     let mut part = match nested.core {
-        Core::Container(container) => container_part(alloc, container, &parts)?,
-        core => core_part(alloc, names, core)?,
+        Core::Container(container) => container_part(pen, container, &parts),
+        core => core_part(pen, names, core),
     };
     for holder in nested.holders.iter().rev() {
         part = match *holder {
-            Holder::BTreeMap(key) => mapped(alloc, names, (key, &part))?,
-            Holder::Box => boxed(alloc, names, &part)?,
-            Holder::Option => optional(alloc, &part)?,
-            Holder::Vec => listed(alloc, names, &part)?,
+            Holder::BTreeMap(key) => mapped(pen, names, (key, &part)),
+            Holder::Box => boxed(pen, names, &part),
+            Holder::Option => optional(pen, &part),
+            Holder::Vec => listed(pen, names, &part),
         };
     }
-    Ok(part)
+    part
 }
 
 /// What is said of a box.
-fn boxed(alloc: Global, names: &Names, part: &Part) -> Result<Part, AllocError> {
-    let of = at(alloc, part.of.as_str(), names.of.as_str())?;
-    let of = atom(alloc, of.as_str())?;
-    Ok(Part {
-        of: format!(in alloc; "Box {} Global", atom(alloc, part.of.as_str())?)?,
-        deep: format!(in alloc; "Box {} Global", atom(alloc, part.deep.as_str())?)?,
-        codec: format!(in alloc;
-            "codec_as (λ (x : Box {of} Global). x.value) {}",
-            atom(alloc, part.codec.as_str())?
-        )?,
-        legal: part.legal.clone()?,
-        layer: layered(alloc, "seen_layer (λ x. x.value) ", &part.layer, "")?,
-        step: at(alloc, part.step.as_str(), "$.value")?,
-        means: at(alloc, part.means.as_str(), "$.value")?,
-        depth: at(alloc, part.depth.as_str(), "$.value")?,
+fn boxed(pen: &Pen, names: &Names, part: &Part) -> Part {
+    let value = "$.value";
+    Part {
+        of: held_by(pen, "Box", part.of.as_str()),
+        deep: held_by(pen, "Box", part.deep.as_str()),
+        codec: boxed_codec(pen, names, part),
+        legal: pen.copy(part.legal.as_str()),
+        layer: layered(pen, "seen_layer (λ x. x.value) ", &part.layer, ""),
+        step: at(pen, part.step.as_str(), value),
+        means: at(pen, part.means.as_str(), value),
+        depth: at(pen, part.depth.as_str(), value),
         is_cased: false,
-        means_same: held_proof(alloc, &part.means_same, "$.value")?,
-        depth_same: held_proof(alloc, &part.depth_same, "$.value")?,
-        weaker: part.weaker.clone()?,
-        agrees: seen_agreeing(alloc, "", &part.agrees, "(λ x. x.value)")?,
-    })
+        means_same: held_proof(pen, &part.means_same, value),
+        depth_same: held_proof(pen, &part.depth_same, value),
+        weaker: pen.copy(part.weaker.as_str()),
+        agrees: seen_agreeing(pen, "", &part.agrees, "(λ x. x.value)"),
+    }
+}
+
+/// The type of a box or a list of values of a type.
+fn held_by(pen: &Pen, holder: &str, of: &str) -> String {
+    pen.one("{} Global", applied(pen, holder, of).as_str())
+}
+
+/// The codec of a box.
+fn boxed_codec(pen: &Pen, names: &Names, part: &Part) -> String {
+    let of = at(pen, part.of.as_str(), names.of.as_str());
+    let seen = pen.one(
+        "codec_as (λ (x : {}). x.value)",
+        held_by(pen, "Box", of.as_str()).as_str(),
+    );
+    applied(pen, seen.as_str(), part.codec.as_str())
 }
 
 /// A proof of a value, if there is one.
-pub(crate) fn held_proof(
-    alloc: Global,
-    proof: &Option<String>,
-    value: &str,
-) -> Result<Option<String>, AllocError> {
+pub(crate) fn held_proof(pen: &Pen, proof: &Option<String>, value: &str) -> Option<String> {
     match proof {
-        Some(proof) => Ok(Some(at(alloc, proof.as_str(), value)?)),
-        None => Ok(None),
+        Some(proof) => Some(at(pen, proof.as_str(), value)),
+        None => None,
     }
 }
 
 /// The proof for an option that has something, if there is one for that.
-fn some_proof(alloc: Global, proof: &Option<String>) -> Result<Option<String>, AllocError> {
+fn some_proof(pen: &Pen, proof: &Option<String>) -> Option<String> {
     match proof {
-        Some(proof) => Ok(Some(format!(in alloc; "ap (λ m. optional (Some m)) ({proof})")?)),
-        None => Ok(None),
+        Some(proof) => Some(pen.one("ap (λ m. optional (Some m)) ({})", proof.as_str())),
+        None => None,
     }
 }
 
 /// That a codec agrees with values that are seen as others, if that of the others does: after what
 /// says so of a collection of them.
 pub(crate) fn seen_agreeing(
-    alloc: Global,
+    pen: &Pen,
     of: &str,
     agrees: &Option<String>,
     view: &str,
-) -> Result<Option<String>, AllocError> {
-    match layered(alloc, of, agrees, "")? {
+) -> Option<String> {
+    match layered(pen, of, agrees, "") {
         Some(agrees) => {
-            let agrees = atom(alloc, agrees.as_str())?;
-            Ok(Some(format!(in alloc; "seen_agrees {agrees} {view}")?))
+            let agrees = atom(pen, agrees.as_str());
+            Some(pen.two("seen_agrees {} {}", agrees.as_str(), view))
         }
-        None => Ok(None),
+        None => None,
     }
 }
 
 /// What is said of an option.
-fn optional(alloc: Global, part: &Part) -> Result<Part, AllocError> {
-    let step = function(alloc, part.step.as_str())?;
-    let means = function(alloc, part.means.as_str())?;
-    let is_within = part.layer.is_some();
-    let depth = if is_within {
-        format!(in alloc;
-            "held_depth (λ x. {}) $",
-            at(alloc, part.depth.as_str(), "x")?
-        )?
-    } else {
-        String::from_str(alloc, "0")?
-    };
-    Ok(Part {
-        of: format!(in alloc; "Option {}", atom(alloc, part.of.as_str())?)?,
-        deep: format!(in alloc; "Option {}", atom(alloc, part.deep.as_str())?)?,
-        codec: format!(in alloc; "option_codec {}", atom(alloc, part.codec.as_str())?)?,
-        legal: format!(in alloc; "LegalOption {}", atom(alloc, part.legal.as_str())?)?,
-        layer: layered(alloc, "option_layer ", &part.layer, "")?,
-        step: format!(in alloc; "optional (option_map {step} $)")?,
-        means: format!(in alloc; "optional (option_map {means} $)")?,
-        depth,
-        is_cased: is_within,
-        means_same: some_proof(alloc, &part.means_same)?,
-        depth_same: held_proof(alloc, &part.depth_same, "$")?,
-        weaker: format!(in alloc; "option_weaker _ _ {}", atom(alloc, part.weaker.as_str())?)?,
-        agrees: layered(alloc, "option_agrees ", &part.agrees, "")?,
-    })
+fn optional(pen: &Pen, part: &Part) -> Part {
+    Part {
+        of: applied(pen, "Option", part.of.as_str()),
+        deep: applied(pen, "Option", part.deep.as_str()),
+        codec: applied(pen, "option_codec", part.codec.as_str()),
+        legal: applied(pen, "LegalOption", part.legal.as_str()),
+        layer: layered(pen, "option_layer ", &part.layer, ""),
+        step: optional_means(pen, part.step.as_str()),
+        means: optional_means(pen, part.means.as_str()),
+        depth: optional_depth(pen, part),
+        is_cased: part.layer.is_some(),
+        means_same: some_proof(pen, &part.means_same),
+        depth_same: held_proof(pen, &part.depth_same, "$"),
+        weaker: applied(pen, "option_weaker _ _", part.weaker.as_str()),
+        agrees: layered(pen, "option_agrees ", &part.agrees, ""),
+    }
+}
+
+/// What an option means whose value means this.
+fn optional_means(pen: &Pen, means: &str) -> String {
+    pen.one("optional (option_map {} $)", function(pen, means).as_str())
+}
+
+/// How deep an option is, where the values of the type itself are depths.
+fn optional_depth(pen: &Pen, part: &Part) -> String {
+    if part.layer.is_none() {
+        return pen.copy("0");
+    }
+    let depth = at(pen, part.depth.as_str(), "x");
+    pen.one("held_depth (λ x. {}) $", depth.as_str())
 }
 
 /// An item of a list, and its items.
 const ITEMS: (&str, &str) = ("x", "$.items");
 
 /// What is said of a list.
-fn listed(alloc: Global, names: &Names, part: &Part) -> Result<Part, AllocError> {
-    let of = at(alloc, part.of.as_str(), names.of.as_str())?;
-    let of = atom(alloc, of.as_str())?;
-    let codec = atom(alloc, part.codec.as_str())?;
-    let means = function(alloc, part.means.as_str())?;
+fn listed(pen: &Pen, names: &Names, part: &Part) -> Part {
     let within = part.layer.is_some();
     let mapped = within && !is_itself(part);
     let (means_same, depth_same) = (&part.means_same, &part.depth_same);
-    Ok(Part {
-        of: format!(in alloc; "Vec {} Global", atom(alloc, part.of.as_str())?)?,
-        deep: format!(in alloc; "Vec {} Global", atom(alloc, part.deep.as_str())?)?,
-        codec: format!(in alloc;
-            "codec_as (λ (x : Vec {of} Global). x.items) (list_codec {codec})"
-        )?,
-        legal: format!(in alloc; "LegalList {}", atom(alloc, part.legal.as_str())?)?,
-        layer: layered(
-            alloc,
-            "seen_layer (λ x. x.items) (list_layer ",
-            &part.layer,
-            ")",
-        )?,
-        step: listed_step(alloc, part)?,
-        means: format!(in alloc; "listed (map {means} $.items)")?,
-        depth: listed_depth(alloc, part)?,
+    Part {
+        of: held_by(pen, "Vec", part.of.as_str()),
+        deep: held_by(pen, "Vec", part.deep.as_str()),
+        codec: listed_codec(pen, names, part),
+        legal: applied(pen, "LegalList", part.legal.as_str()),
+        layer: listed_layer(pen, part),
+        step: listed_step(pen, part),
+        means: listed_means(pen, part.means.as_str()),
+        depth: listed_depth(pen, part),
         is_cased: false,
-        means_same: steps(alloc, mapped, "list_means _ _ _", ITEMS, means_same)?,
-        depth_same: steps(alloc, within, "list_depth _ _ _", ITEMS, depth_same)?,
-        weaker: format!(in alloc; "list_weaker _ _ {}", atom(alloc, part.weaker.as_str())?)?,
-        agrees: seen_agreeing(alloc, "list_agrees ", &part.agrees, "(λ x. x.items)")?,
-    })
+        means_same: steps(pen, mapped, "list_means _ _ _", ITEMS, means_same),
+        depth_same: steps(pen, within, "list_depth _ _ _", ITEMS, depth_same),
+        weaker: applied(pen, "list_weaker _ _", part.weaker.as_str()),
+        agrees: seen_agreeing(pen, "list_agrees ", &part.agrees, "(λ x. x.items)"),
+    }
+}
+
+/// The codec of a list.
+fn listed_codec(pen: &Pen, names: &Names, part: &Part) -> String {
+    let of = at(pen, part.of.as_str(), names.of.as_str());
+    pen.two(
+        "codec_as (λ (x : {}). x.items) ({})",
+        held_by(pen, "Vec", of.as_str()).as_str(),
+        applied(pen, "list_codec", part.codec.as_str()).as_str(),
+    )
+}
+
+/// As bytes the layer of a list, if its items are of the type itself.
+fn listed_layer(pen: &Pen, part: &Part) -> Option<String> {
+    let before = "seen_layer (λ x. x.items) (list_layer ";
+    layered(pen, before, &part.layer, ")")
+}
+
+/// What a list means whose items mean this.
+fn listed_means(pen: &Pen, means: &str) -> String {
+    pen.one("listed (map {} $.items)", function(pen, means).as_str())
 }
 
 /// Whether a part is the type itself.
@@ -177,83 +188,93 @@ fn is_itself(part: &Part) -> bool {
 }
 
 /// What a list means, where the values of the type itself are meanings.
-fn listed_step(alloc: Global, part: &Part) -> Result<String, AllocError> {
+fn listed_step(pen: &Pen, part: &Part) -> String {
     if is_itself(part) {
-        return String::from_str(alloc, "listed $.items");
+        return pen.copy("listed $.items");
     }
-    let step = function(alloc, part.step.as_str())?;
-    format!(in alloc; "listed (map {step} $.items)")
+    listed_means(pen, part.step.as_str())
 }
 
 /// How deep a list is, where the values of the type itself are depths.
-fn listed_depth(alloc: Global, part: &Part) -> Result<String, AllocError> {
+fn listed_depth(pen: &Pen, part: &Part) -> String {
     if part.layer.is_none() {
-        return String::from_str(alloc, "0");
+        return pen.copy("0");
     }
-    let depth = at(alloc, part.depth.as_str(), "x")?;
-    format!(in alloc; "greatest (map (λ x. {depth}) $.items)")
+    let depth = at(pen, part.depth.as_str(), "x");
+    pen.one("greatest (map (λ x. {}) $.items)", depth.as_str())
 }
 
 /// A layer with what stands before and after it, if there is one.
 pub(crate) fn layered(
-    alloc: Global,
+    pen: &Pen,
     before: &str,
     layer: &Option<String>,
     after: &str,
-) -> Result<Option<String>, AllocError> {
+) -> Option<String> {
     match layer {
         Some(layer) => {
-            let layer = atom(alloc, layer.as_str())?;
-            Ok(Some(format!(in alloc; "{before}{layer}{after}")?))
+            let layer = atom(pen, layer.as_str());
+            Some(pen.three("{}{}{}", before, layer.as_str(), after))
         }
-        None => Ok(None),
+        None => None,
     }
 }
 
 /// A proof by a lemma, of what is proved of what this takes of each item, if there is something to
 /// prove.
 pub(crate) fn steps(
-    alloc: Global,
+    pen: &Pen,
     takes_proof: bool,
     lemma: &str,
     (item, items): (&str, &str),
     proof: &Option<String>,
-) -> Result<Option<String>, AllocError> {
+) -> Option<String> {
     if !takes_proof {
-        return Ok(None);
+        return None;
     }
     let each = match proof {
-        Some(proof) => at(alloc, proof.as_str(), item)?,
-        None => String::from_str(alloc, "refl")?,
+        Some(proof) => at(pen, proof.as_str(), item),
+        None => pen.copy("refl"),
     };
-    Ok(Some(format!(in alloc; "{lemma} (λ x. {each}) {items}")?))
+    Some(pen.three("{} (λ x. {}) {}", lemma, each.as_str(), items))
 }
 
 /// A term with a value in its hole.
-pub(crate) fn at(alloc: Global, term: &str, value: &str) -> Result<String, AllocError> {
-    let mut text = String::new(alloc);
+pub(crate) fn at(pen: &Pen, term: &str, value: &str) -> String {
+    let mut text = pen.empty();
     for (i, part) in term.split('$').enumerate() {
         if i > 0 {
-            text.push_str(value)?;
+            pen.add(&mut text, value);
         }
-        text.push_str(part)?;
+        pen.add(&mut text, part);
     }
-    Ok(text)
+    text
 }
 
 /// A term as an argument: between brackets, if it has several words.
-pub(crate) fn atom(alloc: Global, term: &str) -> Result<String, AllocError> {
+pub(crate) fn atom(pen: &Pen, term: &str) -> String {
     if term.contains(' ') {
-        format!(in alloc; "({term})")
+        pen.one("({})", term)
     } else {
-        String::from_str(alloc, term)
+        pen.copy(term)
     }
 }
 
+/// A function with this argument.
+pub(crate) fn applied(pen: &Pen, function: &str, argument: &str) -> String {
+    pen.two("{} {}", function, atom(pen, argument).as_str())
+}
+
+/// A function with these two arguments.
+pub(crate) fn applied_to_two(pen: &Pen, function: &str, first: &str, second: &str) -> String {
+    let first = applied(pen, function, first);
+    applied(pen, first.as_str(), second)
+}
+
 /// A term with a hole as a function of what stands in it.
-pub(crate) fn function(alloc: Global, term: &str) -> Result<String, AllocError> {
+pub(crate) fn function(pen: &Pen, term: &str) -> String {
     match term.strip_suffix(" $") {
-        Some(name) if !name.contains(' ') => String::from_str(alloc, name),
-        _ => format!(in alloc; "(λ x. {})", at(alloc, term, "x")?),
+        Some(name) if !name.contains(' ') => pen.copy(name),
+        _ => pen.one("(λ x. {})", at(pen, term, "x").as_str()),
     }
 }

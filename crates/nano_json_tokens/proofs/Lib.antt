@@ -10,3 +10,4 @@ pub mod JsonLaws
 pub mod ScalarsLaws
 pub mod WrittenTextLaws
 pub mod NamesLaws
+pub mod QuotedNames

@@ -10,6 +10,7 @@ pub mod laws;
 mod names;
 mod plain;
 mod punctuation;
+mod quoted;
 mod rollback;
 mod scan;
 mod skip;

@@ -16,7 +16,7 @@ ghost use Rattle.nano_json_tokens.specs.Scan.{punctuator_of};
 ghost use Rattle.nano_json_tokens.specs.Token.{Token, str, colon, null};
 
 use crate::words::is_word;
-use nano_text::{Place, plain_string, read_string, take_negative, take_unsigned};
+use nano_text::{Place, plain_string_before, read_string, take_negative, take_unsigned};
 use std::str::Chars;
 
 /// Takes this character, if it is the current one.
@@ -149,7 +149,7 @@ pub fn take_name<'a>(place: &mut Place, input: &mut Chars<'a>) -> Option<&'a str
     ensures counts { IfSome result (λ _. Counts place.old input.old place.new input.new) }
 {
     place.skip_space(input);
-    let name = plain_string(place, input)?;
+    let name = plain_string_before(place, input, Some(b':'))?;
     if !take_directly(place, input, ':') {
         return None;
     }

@@ -4,6 +4,7 @@ ghost use Rattle.std.specs.Prelude.{◌≡◌, ◌++◌, OnOk, OnErr, IsOk, code
 ghost use Rattle.nano_text.specs.Outcomes.{Unchanged};
 ghost use Rattle.nano_json_tokens.specs.Outcomes.{Writes};
 
+use crate::quoted::{SHORT_NAME, append_short_name};
 use std::alloc::AllocError;
 
 /// What is written so far. A call that runs out of memory leaves it unchanged.
@@ -30,6 +31,9 @@ impl SerJsonState {
         ensures err { OnErr result (Unchanged self.old.out self.new.out) }
     {
         self.indent(d)?;
+        if field.len() <= SHORT_NAME {
+            return append_short_name(&mut self.out, field);
+        }
         self.out.reserve(field.len() + 3)?;
         self.out.push('"')?;
         self.out.push_str(field)?;

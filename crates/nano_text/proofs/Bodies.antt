@@ -1,9 +1,8 @@
 -- Strings that are read at once: plain characters in their line, and short escapes.
-use Rattle.std.proofs.Common.{◌≡◌, ◌≢◌, ℕ, zero, suc, ◌+◌, ◌-◌, ◌^◌, ◌<◌, ◌≤◌, min, List, [], ◌∷◌}
+use Rattle.std.proofs.Common.{◌≡◌, ◌≢◌, ℕ, ◌+◌, ◌-◌, ◌^◌, ◌<◌, ◌≤◌, min, List, [], ◌∷◌}
 use Rattle.std.proofs.Common.{◌++◌, Bool, true, false, cond, drop, take, length, length-append}
-use Rattle.std.proofs.Common.{chars, encode_utf8, encode_utf8_all, IsUtf8, add-one, get_or}
+use Rattle.std.proofs.Common.{chars, encode_utf8, encode_utf8_all, IsUtf8}
 use Rattle.std.proofs.Common.{count_by, nat_le, refl, ap, sym, ◌∙◌, subst, ne_eqb, arith}
-use Rattle.std.proofs.Math.Seq.{drop-cons}
 use Rattle.std.proofs.lemmas.Bool.{and_parts}
 use Rattle.std.proofs.lemmas.Bool.Decides.{nat_tests}
 use Rattle.std.proofs.lemmas.Str.{IsUtf8-past_char, IsUtf8-take, IsCharBoundary-at_seam}
@@ -46,36 +45,6 @@ no_feeds (b ∷ bs) =
       | true ↦ λ e. rw (count_first is_line_feed b (prefix is_plain_in_line bs), no_feed b e) (omega (arith, no_feeds bs))
       | false ↦ λ e. refl
     ] refl
-
--- the first bytes are ASCII, and the prefix begins with them
-pub record IsAsciiTo (bytes : List ℕ) (n : ℕ) : Type 0 where
-  pub within : n ≤ length bytes
-  pub len : length (prefix is_plain_in_line bytes) ≡ n + length (prefix is_plain_in_line (drop n bytes))
-  pub columns : count_by begins_character (prefix is_plain_in_line bytes) ≡ n + count_by begins_character (prefix is_plain_in_line (drop n bytes))
-
-pub ascii_more : (bytes : List ℕ) (n : ℕ) → IsAsciiTo bytes n → n < length bytes → is_plain_in_line (get_or bytes n 0) ≡ true → get_or bytes n 0 < 128
-    → IsAsciiTo bytes (n + 1)
-ascii_more bytes n h within plain ascii =
-    let b = get_or bytes n 0 in
-    let rest = prefix is_plain_in_line (drop (n + 1) bytes) in
-    let first : prefix is_plain_in_line (drop n bytes) ≡ b ∷ rest =
-    ap (prefix is_plain_in_line) (drop-cons bytes n 0 within) ∙ rw (plain, add-one) refl in
-    let one : count_by begins_character (b ∷ rest) ≡ 1 + count_by begins_character rest = rw (count_first begins_character b rest, begins_ascii b ascii) refl in
-    record {
-      within = omega arith;
-      len = omega (arith, h.len, ap length first);
-      columns = omega (arith, h.columns, ap (count_by begins_character) first, one);
-    }
-
--- and some more
-pub ascii_by : (bytes : List ℕ) (n r : ℕ) → IsAsciiTo bytes n → n + r ≤ length bytes → ((k : ℕ) → n ≤ k → k < n + r → (is_plain_in_line (get_or bytes k 0) ≡ true) × (get_or bytes k 0 < 127))
-    → IsAsciiTo bytes (n + r)
-ascii_by bytes n zero h inside all = let e : n ≡ n + 0 = omega arith in subst (IsAsciiTo bytes) e h
-ascii_by bytes n (suc r) h inside all =
-    let e : n + r + 1 ≡ n + suc r = omega arith in
-    let so_far = ascii_by bytes n r h (omega (arith, inside)) (λ k low high. all k low (omega (arith, high))) in
-    let this = all (n + r) (omega arith) (omega arith) in
-    subst (IsAsciiTo bytes) e (ascii_more bytes (n + r) so_far (omega (arith, inside)) this.0 (omega (arith, this.1)))
 
 -- ---- what is passed
 

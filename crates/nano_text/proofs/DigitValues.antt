@@ -104,6 +104,26 @@ decimal_thousand n low fits =
     ∙ (append_assoc prefix (hundreds ++ tens) ones
     ∙ (λ i. decimal (a i) ++ (48 + b i) ∷ (48 + c i) ∷ (48 + d i) ∷ [])))
 
+-- nine digits are those of three triples
+pub decimal_billion : (n : ℕ) → 1000000000 ≤ n → n < 2 ^ 64 → (after : List ℕ)
+    → decimal (n / 1000000000) ++ (three_digits (n % 1000000000 / 1000 / 1000) ++ (three_digits (n % 1000000000 / 1000 % 1000) ++ (three_digits (n % 1000000000 % 1000) ++ after))) ≡ decimal n ++ after
+decimal_billion n low fits after =
+    let highest : n / 1000 / 1000 / 1000 ≡ n / 1000000000 = omega arith in
+    let first : n / 1000 / 1000 % 1000 ≡ n % 1000000000 / 1000 / 1000 = omega arith in
+    let second : n / 1000 % 1000 ≡ n % 1000000000 / 1000 % 1000 = omega arith in
+    let third : n % 1000 ≡ n % 1000000000 % 1000 = omega arith in
+    let a = decimal (n / 1000 / 1000 / 1000) in
+    let b = three_digits (n / 1000 / 1000 % 1000) in
+    let c = three_digits (n / 1000 % 1000) in
+    let d = three_digits (n % 1000) in
+    let whole : decimal n ≡ ((a ++ b) ++ c) ++ d =
+    decimal_thousand n (omega (arith, low)) fits
+    ∙ ap (λ l. l ++ d) (decimal_thousand (n / 1000) (omega (arith, low)) (omega (arith, fits))
+    ∙ ap (λ l. l ++ c) (decimal_thousand (n / 1000 / 1000) (omega (arith, low)) (omega (arith, fits)))) in
+    let grouped : (((a ++ b) ++ c) ++ d) ++ after ≡ a ++ (b ++ (c ++ (d ++ after))) = simp append_assoc in
+    sym (ap (λ l. l ++ after) whole ∙ (grouped
+    ∙ (λ i. decimal (highest i) ++ (three_digits (first i) ++ (three_digits (second i) ++ (three_digits (third i) ++ after))))))
+
 -- ---- a sign before the digits
 
 -- a negative number is its minus sign and the digits of its magnitude
@@ -130,6 +150,15 @@ length_three n low high = ap length (decimal_three n low high)
 
 pub length_thousand : (n : ℕ) → 1000 ≤ n → n < 2 ^ 64 → length (decimal n) ≡ length (decimal (n / 1000)) + 3
 length_thousand n low high = ap length (decimal_thousand n low high) ∙ length-append _ _
+
+pub length_billion : (n : ℕ) → 1000000000 ≤ n → n < 2 ^ 64 → length (decimal n) ≡ length (decimal (n / 1000000000)) + 9
+length_billion n low high =
+    let first = length_thousand n (omega (arith, low)) high in
+    let second = length_thousand (n / 1000) (omega (arith, low)) (omega (arith, high)) in
+    let third = length_thousand (n / 1000 / 1000) (omega (arith, low)) (omega (arith, high)) in
+    let highest : n / 1000 / 1000 / 1000 ≡ n / 1000000000 = omega arith in
+    let same = ap (λ k. length (decimal k)) highest in
+    omega (arith, first, second, third, same)
 
 -- four bytes that end at a place are written: the last three, and what was after them
 pub triple_written : (end : ℕ) (buffer : List ℕ) (before a b c : ℕ) → 4 ≤ end → end ≤ length buffer

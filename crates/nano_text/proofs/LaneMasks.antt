@@ -1,5 +1,5 @@
 -- From the mask of bytes looked at together to those that pass a test.
-use Rattle.std.proofs.Common.{◌≡◌, ℕ, ◌+◌, ◌-◌, ◌%◌, ◌^◌, ◌<◌, ◌≤◌, Bool, true, false, not, ◌||◌}
+use Rattle.std.proofs.Common.{◌≡◌, ℕ, ◌+◌, ◌-◌, ◌%◌, ◌^◌, ◌<◌, ◌≤◌, Bool, true, false, cond, not, ◌||◌}
 use Rattle.std.proofs.Common.{List, [], ◌∷◌, map, length, get_or, replicate, Fits, w8, refl, sym}
 use Rattle.std.proofs.Common.{ap, ap₂, ◌∙◌, subst, arith, inl, inr}
 use Rattle.std.proofs.lemmas.Bool.{agree_below, agree_below_at, not-true, cases_eq, eq-eqb, ne_eqb}
@@ -17,6 +17,10 @@ use Rattle.std.proofs.lemmas.Str.Ascii.{IsAscii-from_all}
 use Rattle.std.specs.Prelude.{◌++◌}
 use Rattle.std.specs.List.{AllByRecursion}
 use lib.Lanes.{chunk, zip2, mask_l, top}
+use Rattle.std.proofs.Common.{count_by, count_ones, cond}
+use Rattle.std.proofs.lemmas.Nat.{mod-pow-add}
+use Rattle.std.proofs.lemmas.Simd.{ones-mask_l}
+use Rattle.std.proofs.lemmas.List.{take-take}
 use Rattle.nano_text.specs.Characters.{first_set, three_digits}
 use Rattle.nano_text.specs.declared.triples.TheConstants.{TRIPLES}
 
@@ -80,6 +84,52 @@ module _ (q : ℕ → Bool) (d : List ℕ) (i n r : ℕ) (z : List ℕ) (inside 
       let both = agree_below_at (λ x. not (stops x && q x)) (λ _. true) 256 b all (fits (i + r)).fits in
       not-true _ (subst (λ (t : Bool). not (t && q b) ≡ true) stop both)
 
+-- ==== lanes that are counted
+
+lowest_first : (x y r : ℕ) → x < 2 → (x + 2 * y) % 2 ^ suc r ≡ x + 2 * (y % 2 ^ r)
+lowest_first x y r small =
+    let n = x + 2 * y in
+    let e : suc r ≡ r + 1 = omega arith in
+    let whole : n % 2 ^ (r + 1) ≡ (n / 2 ^ 1 % 2 ^ r) * 2 ^ 1 + n % 2 ^ 1 = mod-pow-add n r 1 in
+    let half : n / 2 ^ 1 ≡ y = omega (arith, small) in
+    let low : n % 2 ^ 1 ≡ x = omega (arith, small) in
+    let rest : n / 2 ^ 1 % 2 ^ r ≡ y % 2 ^ r = ap (λ h. h % 2 ^ r) half in
+    ap (λ k. n % 2 ^ k) e ∙ (whole ∙ omega (arith, rest, low))
+
+mask_take : (ms : List Bool) (r : ℕ) → mask_l ms % 2 ^ r ≡ mask_l (take r ms)
+mask_take ms zero = omega arith
+mask_take [] (suc r) = lowest_first 0 0 r (omega arith) ∙ omega (arith, mask_take [] r)
+mask_take (m ∷ ms) (suc r) =
+    elim m as (λ (b : Bool). (cond b 1 0 + 2 * mask_l ms) % 2 ^ suc r ≡ cond b 1 0 + 2 * mask_l (take r ms)) [
+      | true ↦ lowest_first 1 (mask_l ms) r (omega arith) ∙ ap (λ k. 1 + 2 * k) (mask_take ms r)
+      | false ↦ lowest_first 0 (mask_l ms) r (omega arith) ∙ ap (λ k. 0 + 2 * k) (mask_take ms r)
+    ]
+
+map_take : (f : ℕ → Bool) (r : ℕ) (v : List ℕ) → take r (map f v) ≡ map f (take r v)
+map_take f zero v = refl
+map_take f (suc r) [] = refl
+map_take f (suc r) (x ∷ xs) = ap (λ l. f x ∷ l) (map_take f r xs)
+
+map_agrees : (f g : ℕ → Bool) (v : List ℕ) → ((k : ℕ) → k < length v → f (get_or v k 0) ≡ g (get_or v k 0)) → map f v ≡ map g v
+map_agrees f g [] h = refl
+map_agrees f g (x ∷ xs) h = ap₂ (λ y l. y ∷ l) (h 0 (omega arith)) (map_agrees f g xs (λ k low. h (suc k) (omega (arith, low))))
+
+-- how many of the first lanes pass
+pub counted_first : (q : ℕ → Bool) (d : List ℕ) (i n r : ℕ) (z : List ℕ) → i + n ≤ length d → n ≤ 64 → r ≤ n
+    → ((k : ℕ) → Fits w8 (get_or d k 0)) → (f : ℕ → ℕ) → z ≡ map f (chunk i n d)
+    → agree_below (λ x. top 7 (f x)) q 256 ≡ true
+    → count_ones ((mask_l (map (top 7) z) % 2 ^ 64) % 2 ^ r) ≡ count_by q (take r (drop i d))
+counted_first q d i n r z inside few within fits f lanes all =
+    let v = chunk i n d in
+    let stops : ℕ → Bool = λ x. top 7 (f x) in
+    let long = length-chunk i n d inside in
+    let mask = ap (λ l. mask_l l % 2 ^ 64) (ap (map (top 7)) lanes ∙ map-map (top 7) f v) ∙ mask_l-mod (map stops v) 64 (omega (arith, length-map v stops, long)) in
+    let each : (k : ℕ) → k < length v → stops (get_or v k 0) ≡ q (get_or v k 0) =
+    λ k low. subst (λ b. stops b ≡ q b) (sym (get_or-chunk i n d k 0 (omega (arith, low, long)))) (agree_below_at stops q 256 (get_or d (i + k) 0) all (fits (i + k)).fits) in
+    ap (λ m. count_ones (m % 2 ^ r)) (mask ∙ ap mask_l (map_agrees stops q v each))
+    ∙ (ap count_ones (mask_take (map q v) r ∙ ap mask_l (map_take q r v))
+    ∙ (ones-mask_l q (take r v) ∙ ap (count_by q) (take-take r n (drop i d) within)))
+
 -- ==== triple text
 
 -- so many bytes from a number's place on are its digits
@@ -99,13 +149,20 @@ module _ (digits : ℕ → List ℕ) (place : ℕ → ℕ) (count : ℕ) where
 pub triple_entry : (n : ℕ) → n < 1000 → take 3 (drop (n * 4 + 1) TRIPLES.now) ≡ three_digits n
 triple_entry = entries_are three_digits (λ n. n * 4 + 1) 3 1000 refl
 
--- the first is a zero
-pub padded_entry : (n : ℕ) → n < 1000 → take 4 (drop (n * 4) TRIPLES.now) ≡ 48 ∷ three_digits n
-padded_entry = entries_are (λ n. 48 ∷ three_digits n) (λ n. n * 4) 4 1000 refl
+-- the first is how many of them are no leading zeros
+abbrev pub count_below_1000 : ℕ → ℕ
+count_below_1000 n = cond (ltb n 10) 1 (cond (ltb n 100) 2 3)
+
+pub counted_entry : (n : ℕ) → n < 1000 → take 4 (drop (n * 4) TRIPLES.now) ≡ (48 + count_below_1000 n) ∷ three_digits n
+counted_entry = entries_are (λ n. (48 + count_below_1000 n) ∷ three_digits n) (λ n. n * 4) 4 1000 refl
 
 -- the last two are the digits of a number below 100
 pub pair_entry : (n : ℕ) → n < 100 → take 2 (drop (n * 4 + 2) TRIPLES.now) ≡ (48 + n / 10) ∷ (48 + n % 10) ∷ []
 pair_entry = entries_are (λ n. (48 + n / 10) ∷ (48 + n % 10) ∷ []) (λ n. n * 4 + 2) 2 100 refl
+
+-- the last is the digit of a number below 10
+pub digit_entry : (n : ℕ) → n < 10 → take 1 (drop (n * 4 + 3) TRIPLES.now) ≡ (48 + n) ∷ []
+digit_entry = entries_are (λ n. (48 + n) ∷ []) (λ n. n * 4 + 3) 1 10 refl
 
 abbrev all_ascii : List ℕ → Bool
 all_ascii [] = true

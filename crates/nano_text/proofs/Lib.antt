@@ -1,6 +1,7 @@
 pub mod RemainingText
 pub mod DigitValues
 pub mod LaneMasks
+pub mod TripleDigits
 pub mod Strings
 pub mod Prefixes
 pub mod InLine
@@ -10,6 +11,8 @@ pub mod Runs
 pub mod Numbers
 pub mod Passing
 pub mod Bodies
+pub mod Measured
+pub mod Blocks
 pub mod WholeNumbers
 pub mod PlainStrings
 pub mod PlaceLaws

@@ -1,6 +1,7 @@
 -- Whole numbers of few digits: what is taken at once, and that it is a number.
 use Rattle.std.proofs.Common.{◌≡◌, ◌≢◌, ℕ, ◌+◌, ◌-◌, ◌<◌, ◌≤◌, ◌^◌, min, List, [], ◌∷◌, ◌++◌, true}
 use Rattle.std.proofs.Common.{false, Some, None, pos, neg_ℤ, arith, refl, ap, sym, ◌∙◌, subst}
+use Rattle.std.proofs.Common.{Bool, Option, IfSome, cond, zero, suc}
 use Rattle.std.proofs.Common.{append_assoc, append-nil, add-one, drop, take, length, length-append}
 use Rattle.std.proofs.Common.{get_or, chars, IsUtf8, ne_eqb}
 use Rattle.std.proofs.Math.Nat.{pow-le-pow_right}
@@ -36,6 +37,23 @@ few_digits value len capacity few =
     let fits : len + 1 ≤ 18 = omega (arith, few) in
     let more : 10 ^ (len + 1) ≤ 10 ^ 18 = pow-le-pow_right (omega arith) fits in
     omega (arith, capacity, more)
+
+-- a prefix that ends within the first bytes is that of all
+pub prefix_of_first : (p : ℕ → Bool) (t : List ℕ) (n : ℕ) → length (prefix p (take n t)) < length (take n t)
+    → prefix p (take n t) ≡ prefix p t
+prefix_of_first p t zero less = absurd (omega (arith, less))
+prefix_of_first p [] (suc n) less = refl
+prefix_of_first p (c ∷ cs) (suc n) less =
+    elim (p c) as (λ b. length (cond b (c ∷ prefix p (take n cs)) []) < length (c ∷ take n cs)
+    → cond b (c ∷ prefix p (take n cs)) [] ≡ cond b (c ∷ prefix p cs) []) [
+      | true ↦ λ h. ap (λ (l : List ℕ). c ∷ l) (prefix_of_first p cs n (omega (arith, h)))
+      | false ↦ λ h. refl
+    ] less
+
+-- what two facts of an answer give
+pub if_some_with : {A : Type 0} (P Q R : A → Type 0) (r : Option A) → ((x : A) → P x → Q x → R x) → IfSome r P → IfSome r Q → IfSome r R
+if_some_with P Q R (Some x) f p q = f x p q
+if_some_with P Q R None f p q = tt
 
 -- the digits that a text begins with, and an ASCII character after them
 module _ (text : List ℕ) (len next : ℕ) (utf8 : IsUtf8 text) (count : len ≡ length (prefix is_ascii_digit text)) (within : len < length text) (is : next ≡ get_or text len 0) (ascii : next < 128) where

@@ -2,8 +2,9 @@
 //! at once. Anything else falls back to `string`; no input is consumed.
 
 ghost use Rattle.std.specs.Prelude.{◌≡◌, ◌≢◌, ◌++◌, ◌∷◌, ◌<◌, ◌≤◌, true, false, IfSome, None, List};
-ghost use Rattle.std.specs.Prelude.{ℕ, count_by, string_bytes, string_capacity, ◌+◌, drop};
-ghost use Rattle.std.specs.Prelude.{encode_utf8_all, length};
+ghost use Rattle.std.specs.Prelude.{ℕ, count_by, string_bytes, string_capacity, ◌+◌, take, drop};
+ghost use Rattle.std.specs.Prelude.{encode_utf8_all, length, slice_index, OnOk};
+ghost use Rattle.std.specs.Str.{IsCharBoundary};
 ghost use Rattle.nano_text.specs.Characters.{prefix};
 ghost use Rattle.nano_text.specs.Outcomes.{Counts};
 ghost use Rattle.nano_text.specs.Place.{begins_character, text_at};
@@ -11,38 +12,21 @@ ghost use Rattle.nano_text.specs.String.{IsPlainString, IsString, escaped_char, 
 
 use crate::lanes::{LANES, plain_lanes};
 use crate::place::{Place, begins_character};
+use std::alloc::AllocError;
 use std::str::Chars;
 
 const BACKSPACE: char = '\u{8}';
 
 const FORM_FEED: char = '\u{c}';
 
+/// How many bytes are copied at once, with no call.
+const BLOCK: usize = 32;
+
 /// Whether a byte of UTF-8 is of a character that stands for itself in a string, and in its line.
 fn is_plain_in_line(byte: u8) -> bool
     ensures { result ≡ is_plain_in_line byte }
 {
     byte >= b' ' && byte != b'"' && byte != b'\\'
-}
-
-/// Counts bytes of ASCII that stand for themselves in their line, sixteen in a turn; near the end
-/// of the bytes, and at DEL, more of them may follow.
-#[inline(always)]
-fn ascii_run(bytes: &[u8]) -> usize
-    ensures within { result ≤ length bytes.now }
-    ensures len { length (prefix is_plain_in_line bytes.now)
-        ≡ result + length (prefix is_plain_in_line (drop result bytes.now)) }
-    ensures columns { count_by begins_character (prefix is_plain_in_line bytes.now)
-        ≡ result + count_by begins_character (prefix is_plain_in_line (drop result bytes.now)) }
-{
-    let mut len = 0;
-    'lanes: while bytes.len() - len >= LANES {
-        let plain = plain_lanes(bytes, len);
-        len += plain;
-        if plain < LANES {
-            return len;
-        }
-    }
-    len
 }
 
 /// The longest prefix of some bytes that stands for itself in its line.
@@ -54,28 +38,77 @@ struct LineRun {
     columns: usize,
 }
 
-/// Measures the bytes before the first that does not stand for itself in its line.
-#[inline(always)]
-fn line_run(bytes: &[u8]) -> LineRun
+/// Measures the bytes before the first that does not stand for itself in its line, one by one.
+#[cold]
+#[inline(never)]
+fn last_run(bytes: &[u8]) -> LineRun
     ensures len { result.len ≡ length (prefix is_plain_in_line bytes.now) }
     ensures columns { result.columns
         ≡ count_by begins_character (prefix is_plain_in_line bytes.now) }
 {
-    let ascii = ascii_run(bytes);
-    let mut columns = ascii;
-    for (more, byte) in bytes[ascii..].iter().enumerate() {
+    let mut columns = 0;
+    for (len, byte) in bytes.iter().enumerate() {
         if !is_plain_in_line(*byte) {
-            let len = ascii + more;
             return LineRun { len, columns };
         }
         if begins_character(*byte) {
             columns += 1;
         }
     }
-    LineRun {
-        len: bytes.len(),
-        columns,
+    let len = bytes.len();
+    LineRun { len, columns }
+}
+
+/// Measures the bytes before the first that does not stand for itself in its line, sixteen in a
+/// turn.
+#[inline(always)]
+fn line_run(bytes: &[u8]) -> LineRun
+    ensures len { result.len ≡ length (prefix is_plain_in_line bytes.now) }
+    ensures columns { result.columns
+        ≡ count_by begins_character (prefix is_plain_in_line bytes.now) }
+{
+    let mut len = 0;
+    let mut columns = 0;
+    'lanes: while bytes.len() - len >= LANES {
+        let lanes = plain_lanes(bytes, len);
+        columns += lanes.columns;
+        if lanes.len < LANES {
+            len += lanes.len;
+            return LineRun { len, columns };
+        }
+        len += LANES;
     }
+    let rest = last_run(&bytes[len..]);
+    LineRun {
+        len: len + rest.len,
+        columns: columns + rest.columns,
+    }
+}
+
+/// Whether the first bytes of a text are few, and a whole block of it is there.
+#[inline(always)]
+fn is_in_block(bytes: &[u8], len: usize) -> bool
+    ensures { result ≡ true → (len ≤ 32) × (32 < length bytes.now)
+        × (begins_character (slice_index bytes.now 32) ≡ true) }
+{
+    len <= BLOCK && BLOCK < bytes.len() && begins_character(bytes[BLOCK])
+}
+
+/// Appends the first bytes of a text. A few are appended with the block that they begin, which is
+/// then truncated: a copy of a length that is known is no call.
+#[inline(always)]
+fn append_prefix(out: &mut String, text: &str, len: usize) -> Result<(), AllocError>
+    requires { IsCharBoundary text.now len }
+    ensures ok { OnOk result (string_bytes out.new ≡ string_bytes out.old ++ take len text.now) }
+    ensures capacity { string_capacity out.old ≤ string_capacity out.new }
+{
+    if !is_in_block(text.as_bytes(), len) {
+        return out.push_str(text.split_at(len).0);
+    }
+    let start = out.len();
+    out.push_str(text.split_at(BLOCK).0)?;
+    out.truncate(start + len);
+    Ok(())
 }
 
 /// The character that a backslash and this character stand for.
@@ -118,6 +151,17 @@ fn short_escape(bytes: &[u8]) -> Option<char>
     Some(escaped_char(char::from(escaped)))
 }
 
+/// Whether this byte comes after a first one, if it is given.
+#[inline(always)]
+fn goes_on(bytes: &[u8], next: Option<u8>) -> bool
+    ensures { next ≡ None → result ≡ true }
+{
+    match next {
+        Some(byte) => bytes.get(1) == Some(&byte),
+        None => true,
+    }
+}
+
 /// Takes the string that begins at the current character, where it has no escape and no character
 /// below U+0020: the text between the quotes, in place. Where no such string begins there, nothing
 /// is taken.
@@ -131,6 +175,26 @@ pub fn plain_string<'a>(p: &mut Place, i: &mut Chars<'a>) -> Option<&'a str>
     ensures place { Counts p.old i.old p.new i.new }
     ensures unchanged { result ≡ None → (p.new ≡ p.old) × (i.new ≡ i.old) }
 {
+    plain_string_before(p, i, None)
+}
+
+/// The same, only where this byte comes right after it, if it is given. It is not taken, but what
+/// follows the string is known then, so that taking it costs next to nothing. The contract does not
+/// speak of this byte yet: a caller looks at what follows.
+#[inline(always)]
+pub fn plain_string_before<'a>(
+    p: &mut Place,
+    i: &mut Chars<'a>,
+    next: Option<u8>,
+) -> Option<&'a str>
+    ensures found { IfSome result (λ text. (characters : List ℕ)
+        × IsString (text_at p.old i.old) characters (text_at p.new i.new)
+        × (text.now ≡ encode_utf8_all characters)) }
+    ensures none { result ≡ None → next ≡ None → (characters : List ℕ) → (rest : List ℕ)
+        → IsPlainString (text_at p.old i.old) characters rest → ⊥ }
+    ensures place { Counts p.old i.old p.new i.new }
+    ensures unchanged { result ≡ None → (p.new ≡ p.old) × (i.new ≡ i.old) }
+{
     if p.cur != '"' {
         return None;
     }
@@ -138,6 +202,9 @@ pub fn plain_string<'a>(p: &mut Place, i: &mut Chars<'a>) -> Option<&'a str>
     let run = line_run(rest.as_bytes());
     let (plain, following) = rest.split_at(run.len);
     if !begins_with_quote(following.as_bytes()) {
+        return None;
+    }
+    if !goes_on(following.as_bytes(), next) {
         return None;
     }
     p.col = p.col.saturating_add(run.columns).saturating_add(1);
@@ -165,10 +232,10 @@ pub(crate) fn read_at_once(p: &mut Place, i: &mut Chars<'_>, strbuf: &mut String
     let mut rest = i.as_str();
     'runs: loop {
         let run = line_run(rest.as_bytes());
-        let (plain, following) = rest.split_at(run.len);
-        let Ok(()) = strbuf.push_str(plain) else {
+        let Ok(()) = append_prefix(strbuf, rest, run.len) else {
             return false;
         };
+        let following = rest.split_at(run.len).1;
         col = col.saturating_add(run.columns);
         if begins_with_quote(following.as_bytes()) {
             p.col = col.saturating_add(1);

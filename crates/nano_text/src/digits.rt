@@ -1,92 +1,29 @@
 //! Decimal digits of integers.
 
-ghost use Rattle.std.specs.Prelude.{◌≡◌, ◌+◌, ◌-◌, ◌/◌, ◌%◌, ◌^◌, ◌<◌, ◌≤◌, ◌++◌, ◌∷◌, [], OnOk};
+ghost use Rattle.std.specs.Prelude.{◌≡◌, ◌+◌, ◌-◌, ◌/◌, ◌%◌, ◌^◌, ◌<◌, ◌≤◌, ◌++◌, ◌∷◌, OnOk};
 ghost use Rattle.std.specs.Prelude.{OnErr, string_bytes, IsAscii, length, take, drop};
 ghost use Rattle.std.specs.Fmt.{decimal, signed_decimal};
 ghost use Rattle.nano_text.specs.Characters.{three_digits};
 ghost use Rattle.nano_text.specs.Outcomes.{Appends, Unchanged};
 
-use crate::triples::{padded_triple, pair, triple};
+use crate::triples::{digit_count, leading_digits, padded_triple};
 use std::alloc::AllocError;
 use std::str;
 
+/// Numbers below it fit 32 bits.
+const BILLION: u64 = 1_000_000_000;
 /// The most digits that a number has.
 const MOST_DIGITS: usize = 20;
-/// Where the digits of a number end in a buffer: before them is space for a triple's zero.
+/// Where the digits of a number end in a buffer: before them is space for the byte that a triple
+/// begins with.
 const DIGITS_END: usize = MOST_DIGITS + 3;
 /// From each place where digits may start there are as many bytes as the most digits.
 const BUFFER_LEN: usize = DIGITS_END + MOST_DIGITS;
 
-/// Appends one digit. If the allocation fails, `out` is unchanged.
-#[inline(always)]
-fn append_digit(out: &mut String, number: u64) -> Result<(), AllocError>
-    requires { number < 10 }
-    ensures ok { OnOk result (string_bytes out.new ≡ string_bytes out.old ++ (48 + number) ∷ []) }
-    ensures err { OnErr result (Unchanged out.old out.new) }
-{
-    out.push(char::from(b'0' + number as u8))
-}
-
-/// Appends a number below 100 as two digits, with a leading zero. If the allocation fails,
-/// `out` is unchanged.
-#[inline(always)]
-fn append_pair(out: &mut String, number: u64) -> Result<(), AllocError>
-    requires { number < 100 }
-    ensures ok { OnOk result
-        (string_bytes out.new ≡ string_bytes out.old
-        ++ (48 + number / 10) ∷ (48 + number % 10) ∷ []) }
-    ensures err { OnErr result (Unchanged out.old out.new) }
-{
-    out.push_str(pair(number))
-}
-
-/// Appends a number below 1,000 as three digits, with leading zeros. If the allocation fails,
-/// `out` is unchanged.
-#[inline(always)]
-fn append_triple(out: &mut String, number: u64) -> Result<(), AllocError>
-    requires { number < 1000 }
-    ensures ok { OnOk result
-        (string_bytes out.new ≡ string_bytes out.old ++ three_digits number) }
-    ensures err { OnErr result (Unchanged out.old out.new) }
-{
-    out.push_str(triple(number))
-}
-
-/// Appends a number below 1,000. If the allocation fails, `out` is unchanged.
-#[inline(always)]
-fn append_short(out: &mut String, number: u64) -> Result<(), AllocError>
-    requires { number < 1000 }
-    ensures ok { OnOk result (string_bytes out.new ≡ string_bytes out.old ++ decimal number) }
-    ensures err { OnErr result (Unchanged out.old out.new) }
-{
-    if number >= 100 {
-        return append_triple(out, number);
-    }
-    if number >= 10 {
-        return append_pair(out, number);
-    }
-    append_digit(out, number)
-}
-
-/// How many digits a number below 1,000 has.
-#[inline(always)]
-fn digit_count(number: u64) -> usize
-    requires { number < 1000 }
-    ensures { result ≡ length (decimal number) }
-{
-    if number >= 100 {
-        3
-    } else if number >= 10 {
-        2
-    } else {
-        1
-    }
-}
-
 /// Writes a number below 1,000 as three digits that end at `end`. The byte before them is
 /// overwritten too.
 #[inline(always)]
-fn write_triple(number: u64, buffer: &mut [u8], end: usize)
+fn write_triple(number: u32, buffer: &mut [u8], end: usize)
     requires small { number < 1000 }
     requires within { (4 ≤ end) × (end ≤ length buffer.old) }
     ensures { drop (end - 3) buffer.new ≡ three_digits number ++ drop end buffer.old }
@@ -98,10 +35,27 @@ fn write_triple(number: u64, buffer: &mut [u8], end: usize)
     buffer[end - 4] = digits[0];
 }
 
-/// Writes the digits of a number so that they end at `end`, three at a time from the last.
-/// Returns where they start. Bytes before them may be overwritten too.
+/// Writes a number below 1,000,000,000 as nine digits that end at `end`. The byte before them is
+/// overwritten too.
 #[inline(always)]
-fn write_digits(number: u64, buffer: &mut [u8], end: usize) -> usize
+fn write_nine(number: u32, buffer: &mut [u8], end: usize)
+    requires small { number < 10 ^ 9 }
+    requires within { (10 ≤ end) × (end ≤ length buffer.old) }
+    ensures { drop (end - 9) buffer.new ≡ three_digits (number / 1000 / 1000)
+        ++ (three_digits (number / 1000 % 1000)
+        ++ (three_digits (number % 1000) ++ drop end buffer.old)) }
+{
+    let thousands = number / 1000;
+    write_triple(number % 1000, buffer, end);
+    write_triple(thousands % 1000, buffer, end - 3);
+    write_triple(thousands / 1000, buffer, end - 6);
+}
+
+/// Writes the digits of a number below 1,000,000,000 so that they end at `end`, three at a time
+/// from the last. Returns where they start. Bytes before them may be overwritten too.
+#[inline(always)]
+fn write_highest(number: u32, buffer: &mut [u8], end: usize) -> usize
+    requires small { number < 10 ^ 9 }
     requires within { (length (decimal number) + 3 ≤ end) × (end ≤ length buffer.old) }
     ensures start { result + length (decimal number) ≡ end }
     ensures written { drop result buffer.new ≡ decimal number ++ drop end buffer.old }
@@ -115,6 +69,25 @@ fn write_digits(number: u64, buffer: &mut [u8], end: usize) -> usize
     }
     write_triple(rest, buffer, at);
     at - digit_count(rest)
+}
+
+/// Writes the digits of a number so that they end at `end`, nine at a time from the last, since 32
+/// bits are divided sooner than 64. Returns where they start. Bytes before them may be overwritten
+/// too.
+#[inline(always)]
+fn write_digits(number: u64, buffer: &mut [u8], end: usize) -> usize
+    requires within { (length (decimal number) + 3 ≤ end) × (end ≤ length buffer.old) }
+    ensures start { result + length (decimal number) ≡ end }
+    ensures written { drop result buffer.new ≡ decimal number ++ drop end buffer.old }
+{
+    let mut rest = number;
+    let mut at = end;
+    'nines: while rest >= BILLION {
+        write_nine((rest % BILLION) as u32, buffer, at);
+        rest /= BILLION;
+        at -= 9;
+    }
+    write_highest(rest as u32, buffer, at)
 }
 
 /// Appends the first bytes of an ASCII text. All of it is appended and then truncated: a copy of
@@ -133,6 +106,15 @@ fn append_first(out: &mut String, text: &str, len: usize) -> Result<(), AllocErr
     Ok(())
 }
 
+/// These bytes as a text: ASCII is UTF-8, and its check would cost as much as the digits.
+#[inline(always)]
+fn ascii_text(bytes: &[u8]) -> &str
+    requires { IsAscii bytes.now }
+    ensures { result.now ≡ bytes.now }
+{
+    unsafe { str::from_utf8_unchecked(bytes) }
+}
+
 /// Appends what a buffer holds from `start` to where its digits end. If the allocation fails,
 /// `out` is unchanged.
 #[inline(always)]
@@ -144,14 +126,26 @@ fn append_written(out: &mut String, buffer: &[u8], start: usize) -> Result<(), A
         ++ take (DIGITS_END - start) (drop start buffer.now)) }
     ensures err { OnErr result (Unchanged out.old out.new) }
 {
-    // ASCII is UTF-8, and its check would cost as much as the digits.
-    let text = unsafe { str::from_utf8_unchecked(&buffer[start..start + MOST_DIGITS]) };
+    let text = ascii_text(&buffer[start..start + MOST_DIGITS]);
     append_first(out, text, DIGITS_END - start)
 }
 
-/// Appends a number, without inlining. If the allocation fails, `out` is unchanged.
-#[inline(never)]
-fn append_long(out: &mut String, number: u64) -> Result<(), AllocError>
+/// Appends a number below 1,000, with no branch on how many digits it has. If the allocation
+/// fails, `out` is unchanged.
+#[inline(always)]
+fn append_short(out: &mut String, number: u32) -> Result<(), AllocError>
+    requires { number < 1000 }
+    ensures ok { OnOk result (string_bytes out.new ≡ string_bytes out.old ++ decimal number) }
+    ensures err { OnErr result (Unchanged out.old out.new) }
+{
+    let count = digit_count(number);
+    let digits = leading_digits(number, count);
+    append_first(out, ascii_text(&digits), count)
+}
+
+/// Appends the digits of a number. If the allocation fails, `out` is unchanged.
+#[inline(always)]
+fn append_digits(out: &mut String, number: u64) -> Result<(), AllocError>
     ensures ok { OnOk result (string_bytes out.new ≡ string_bytes out.old ++ decimal number) }
     ensures err { OnErr result (Unchanged out.old out.new) }
 {
@@ -160,15 +154,38 @@ fn append_long(out: &mut String, number: u64) -> Result<(), AllocError>
     append_written(out, &buffer, start)
 }
 
+/// Appends a number to a text that may have to grow. If the allocation fails, `out` is unchanged.
+#[cold]
+#[inline(never)]
+fn append_grown(out: &mut String, number: u64) -> Result<(), AllocError>
+    ensures ok { OnOk result (string_bytes out.new ≡ string_bytes out.old ++ decimal number) }
+    ensures err { OnErr result (Unchanged out.old out.new) }
+{
+    append_digits(out, number)
+}
+
+/// Appends a number, without inlining. A text that has to grow is left to another function, so
+/// that nothing is saved here for its call. If the allocation fails, `out` is unchanged.
+#[inline(never)]
+fn append_long(out: &mut String, number: u64) -> Result<(), AllocError>
+    ensures ok { OnOk result (string_bytes out.new ≡ string_bytes out.old ++ decimal number) }
+    ensures err { OnErr result (Unchanged out.old out.new) }
+{
+    if out.capacity() - out.len() < MOST_DIGITS {
+        return append_grown(out, number);
+    }
+    append_digits(out, number)
+}
+
 /// Appends a number in decimal digits, one below 1,000 without a call. If an allocation fails,
 /// `out` is unchanged.
-#[inline]
+#[inline(always)]
 pub fn append_unsigned(out: &mut String, value: u64) -> Result<(), AllocError>
     ensures ok { OnOk result (Appends out.old out.new (decimal value)) }
     ensures err { OnErr result (Unchanged out.old out.new) }
 {
     if value < 1000 {
-        return append_short(out, value);
+        return append_short(out, value as u32);
     }
     append_long(out, value)
 }

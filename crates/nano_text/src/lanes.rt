@@ -1,7 +1,9 @@
 //! Bytes looked at sixteen at a time.
 
 ghost use Rattle.std.specs.Prelude.{◌≡◌, ◌≢◌, ◌<◌, ◌≤◌, ◌+◌, ℕ, true, false, length, slice_index};
+ghost use Rattle.std.specs.Prelude.{◌%◌, ◌^◌, count_by, count_ones, take, drop};
 ghost use Rattle.nano_text.specs.Characters.{first_set};
+ghost use Rattle.nano_text.specs.Place.{begins_character};
 ghost use Rattle.nano_text.specs.Scan.{is_blank};
 ghost use Rattle.nano_text.specs.String.{is_plain_in_line};
 
@@ -22,20 +24,45 @@ fn first_set(mask: u64, lanes: usize) -> usize
     }
 }
 
-/// How many of the bytes from a place on, up to sixteen, surely are characters of ASCII that stand
-/// for themselves in a string, and in its line. DEL is left out, which is written with an escape.
+/// Those of sixteen bytes that stand for themselves in a string, and in its line, before the first
+/// that does not.
+#[derive(Clone, Copy)]
+pub(crate) struct PlainLanes {
+    /// How many bytes they are.
+    pub(crate) len: usize,
+    /// How many characters begin in them.
+    pub(crate) columns: usize,
+}
+
+/// How many of the first lanes have their bits set.
 #[inline(always)]
-pub(crate) fn plain_lanes(bytes: &[u8], from: usize) -> usize
+fn count_first(mask: u64, lanes: usize) -> usize
+    requires { lanes ≤ 16 }
+    ensures { result ≡ count_ones (mask % 2 ^ lanes) }
+{
+    (mask & ((1 << lanes) - 1)).count_ones() as usize
+}
+
+/// Looks at the sixteen bytes from a place on.
+#[inline(always)]
+pub(crate) fn plain_lanes(bytes: &[u8], from: usize) -> PlainLanes
     requires { from + 16 ≤ length bytes.now }
-    ensures within { result ≤ 16 }
-    ensures plain { (k : ℕ) → from ≤ k → k < from + result
-        → (is_plain_in_line (slice_index bytes.now k) ≡ true) × (slice_index bytes.now k < 127) }
+    ensures within { result.len ≤ 16 }
+    ensures plain { (k : ℕ) → from ≤ k → k < from + result.len
+        → is_plain_in_line (slice_index bytes.now k) ≡ true }
+    ensures stops { result.len < 16
+        → is_plain_in_line (slice_index bytes.now (from + result.len)) ≡ false }
+    ensures columns { result.columns
+        ≡ count_by begins_character (take result.len (drop from bytes.now)) }
 {
     let lanes = u8x16::from_slice(&bytes[from..]);
-    let is_outside = lanes.simd_lt(u8x16::splat(b' ')) | lanes.simd_ge(u8x16::splat(0x7F));
+    let is_control = lanes.simd_lt(u8x16::splat(b' '));
     let is_quote = lanes.simd_eq(u8x16::splat(b'"'));
     let is_backslash = lanes.simd_eq(u8x16::splat(b'\\'));
-    first_set((is_outside | is_quote | is_backslash).to_bitmask(), LANES)
+    let len = first_set((is_control | is_quote | is_backslash).to_bitmask(), LANES);
+    let begins = lanes.simd_lt(u8x16::splat(0x80)) | lanes.simd_ge(u8x16::splat(0xC0));
+    let columns = count_first(begins.to_bitmask(), len);
+    PlainLanes { len, columns }
 }
 
 /// How many of the sixteen bytes from a place on are blanks before the first that is none.

@@ -21,7 +21,7 @@ mod triples;
 mod whole;
 mod written;
 
-pub use body::plain_string;
+pub use body::{plain_string, plain_string_before};
 pub use capacity::bytes_left;
 pub use digits::{append_signed, append_unsigned};
 pub use number::{Fault, Number, read_number, take_negative, take_unsigned};

@@ -233,5 +233,11 @@ pub fn read_string(p: &mut Place, i: &mut Chars<'_>, strbuf: &mut String) -> Res
     if read_at_once(p, i, strbuf) {
         return Ok(());
     }
-    read_pieces(p, i, strbuf)
+    // Lends copies, so that the place and the input remain in registers where they are not lent.
+    let mut place = *p;
+    let mut rest = i.as_str().chars();
+    let read = read_pieces(&mut place, &mut rest, strbuf);
+    *p = place;
+    *i = rest;
+    read
 }

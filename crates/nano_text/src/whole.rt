@@ -17,6 +17,9 @@ use std::str::Chars;
 /// Up to this many digits after a first one cannot overflow a `u64`.
 const MOST: usize = 18;
 
+/// Among so many bytes the digits end, or they are too many.
+const AHEAD: usize = MOST + 1;
+
 /// Digits that follow, and the character after them.
 #[derive(Clone, Copy)]
 pub(crate) struct Ahead {
@@ -39,7 +42,7 @@ fn ends_whole(byte: u8) -> bool
 /// Looks at the digits that these bytes begin with, after a first digit. `None` where they are
 /// many, or what follows is unusual.
 #[inline(always)]
-fn digits_ahead(first: u64, bytes: &[u8]) -> Option<Ahead>
+fn digits_within(first: u64, bytes: &[u8]) -> Option<Ahead>
     requires { first < 10 }
     ensures len { IfSome result (λ ahead. ahead.len ≡ length (prefix is_ascii_digit bytes.now)) }
     ensures value { IfSome result (λ ahead. ahead.value
@@ -69,6 +72,59 @@ fn digits_ahead(first: u64, bytes: &[u8]) -> Option<Ahead>
         value = value * 10 + u64::from(*byte - b'0');
     }
     None
+}
+
+/// Looks at the digits that these bytes begin with, after a first digit, as `digits_within` does:
+/// among as many bytes as are enough, so that no turn asks whether they end. `None` where there are
+/// fewer.
+#[inline(always)]
+fn digits_among_enough(first: u64, bytes: &[u8]) -> Option<Ahead>
+    requires { first < 10 }
+    ensures len { IfSome result (λ ahead. ahead.len ≡ length (prefix is_ascii_digit bytes.now)) }
+    ensures value { IfSome result (λ ahead. ahead.value
+        ≡ digits_value_after 10 first (prefix is_ascii_digit bytes.now)) }
+    ensures next { IfSome result (λ ahead. (ahead.len < length bytes.now)
+        × (ahead.next ≡ get_or bytes.now ahead.len 0)) }
+    ensures ends { IfSome result (λ ahead. (continues None None ahead.next ≡ false)
+        × (ahead.next < 128)) }
+{
+    let chunk = bytes.first_chunk::<AHEAD>()?;
+    digits_within(first, chunk)
+}
+
+/// Looks at the digits that these bytes begin with, after a first digit, as `digits_within` does:
+/// at the end of a text, where the bytes are few.
+#[inline(always)]
+fn last_digits(first: u64, bytes: &[u8]) -> Option<Ahead>
+    requires { first < 10 }
+    ensures len { IfSome result (λ ahead. ahead.len ≡ length (prefix is_ascii_digit bytes.now)) }
+    ensures value { IfSome result (λ ahead. ahead.value
+        ≡ digits_value_after 10 first (prefix is_ascii_digit bytes.now)) }
+    ensures next { IfSome result (λ ahead. (ahead.len < length bytes.now)
+        × (ahead.next ≡ get_or bytes.now ahead.len 0)) }
+    ensures ends { IfSome result (λ ahead. (continues None None ahead.next ≡ false)
+        × (ahead.next < 128)) }
+{
+    digits_within(first, bytes)
+}
+
+/// Looks at the digits that these bytes begin with, after a first digit. `None` where they are
+/// many, or what follows is unusual.
+#[inline(always)]
+fn digits_ahead(first: u64, bytes: &[u8]) -> Option<Ahead>
+    requires { first < 10 }
+    ensures len { IfSome result (λ ahead. ahead.len ≡ length (prefix is_ascii_digit bytes.now)) }
+    ensures value { IfSome result (λ ahead. ahead.value
+        ≡ digits_value_after 10 first (prefix is_ascii_digit bytes.now)) }
+    ensures next { IfSome result (λ ahead. (ahead.len < length bytes.now)
+        × (ahead.next ≡ get_or bytes.now ahead.len 0)) }
+    ensures ends { IfSome result (λ ahead. (continues None None ahead.next ≡ false)
+        × (ahead.next < 128)) }
+{
+    if bytes.len() < AHEAD {
+        return last_digits(first, bytes);
+    }
+    digits_among_enough(first, bytes)
 }
 
 /// Takes the digits that follow, and the character after them.

@@ -1,2 +1,3 @@
 pub mod ByRank
+pub mod Rising
 pub mod TextRanks

@@ -7,6 +7,7 @@
 
 mod bools;
 mod boxes;
+mod by_words;
 mod collect;
 mod exact_eq;
 pub mod laws;
@@ -20,9 +21,11 @@ mod ranks;
 mod sets;
 mod signed;
 mod texts;
+mod tie;
 mod tuples;
 mod unsigned;
 mod value;
+mod words;
 
 pub use collect::{Collect, CollectEntries};
 pub use exact_eq::ExactEq;

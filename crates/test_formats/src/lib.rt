@@ -24,6 +24,8 @@ mod key_tests;
 #[cfg(test)]
 mod line_tests;
 #[cfg(test)]
+mod long_map_tests;
+#[cfg(test)]
 mod plain_tests;
 #[cfg(test)]
 mod ron_tests;

@@ -4,7 +4,7 @@
 use crate::checks::{holds, is_made, is_so};
 use nano_text::{
     Escaping, Fault, Number, Place, append_characters, append_signed, append_unsigned, bytes_left,
-    is_space, laws, plain_string, read_number, read_string, rollback_on_error,
+    is_space, laws, plain_string, plain_string_before, read_number, read_string, rollback_on_error,
 };
 use std::alloc::{AllocError, Global};
 use std::str::Chars;
@@ -79,6 +79,11 @@ const IN_PLACE: &[(&str, Option<&str>, usize)] = &[
     ("a\":", Some("a"), 4),
     ("\"", Some(""), 2),
     ("0123456789abcdefé\" ", Some("0123456789abcdefé"), 20),
+    (
+        "0123456789abcdé0123456789abcdé01\"",
+        Some("0123456789abcdé0123456789abcdé01"),
+        34,
+    ),
     ("a\\n\"", None, 1),
     ("a\nb\"", None, 1),
     ("a", None, 1),
@@ -93,6 +98,25 @@ fn is_in_place(text: &str, string: Option<&str>, col: usize) -> bool {
         col: 1,
     };
     plain_string(&mut place, &mut input) == string && place.col == col
+}
+
+/// Texts after a quote, a byte, and the string that is taken in place before that byte.
+const BEFORE: &[(&str, u8, Option<&str>)] = &[
+    ("a\":", b':', Some("a")),
+    ("é\",", b',', Some("é")),
+    ("a\" :", b':', None),
+    ("a\"", b':', None),
+];
+
+/// Whether this string is taken in place before this byte.
+fn is_before(text: &str, next: u8, string: Option<&str>) -> bool {
+    let mut input = text.chars();
+    let mut place = Place {
+        cur: '"',
+        line: 0,
+        col: 1,
+    };
+    plain_string_before(&mut place, &mut input, Some(next)) == string
 }
 
 /// White space before a text, and the line and column of what follows it.
@@ -131,6 +155,9 @@ fn strings(rt: HostRuntime) {
     holds(&rt, is_none, "the end");
     for (text, string, col) in IN_PLACE {
         holds(&rt, is_in_place(text, *string, *col), text);
+    }
+    for (text, next, string) in BEFORE {
+        holds(&rt, is_before(text, *next, *string), text);
     }
 }
 

@@ -1,4 +1,4 @@
-use Rattle.std.proofs.Common.{sym, ◌∙◌, ap, subst, List, ℕ, ◌∷◌}
+use Rattle.std.proofs.Common.{sym, ◌∙◌, ap, subst, List, ℕ}
 use Rattle.nano_text.specs.Place.{text_at}
 use Rattle.nano_json_tokens.specs.Cut.{Cut}
 use Rattle.nano_json_tokens.specs.Scan.{punctuator_of}

@@ -10,7 +10,7 @@ returns-clause-taken c =
     let found = c.in_ok-name.ensures.found in
     let name = string_after c.in_ok-name.name.now found.0 c.skip_space.ensures.rest found.1 found.2 in
     let token_cut = c.take_directly.ensures.taken c.if-not-take_directly.false colon refl in
-    (text_at c.plain_string.new.p c.plain_string.new.i, name, (text_at c.take_directly.new.place c.take_directly.new.input, token_cut, refl))
+    (text_at c.plain_string_before.new.p c.plain_string_before.new.i, name, (text_at c.take_directly.new.place c.take_directly.new.input, token_cut, refl))
 
 pub returns-clause-counts : goal.returns-clause-counts
 returns-clause-counts c =

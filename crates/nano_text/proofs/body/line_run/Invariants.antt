@@ -1,14 +1,9 @@
-use Rattle.std.proofs.Common.{◌≡◌, ◌+◌, ◌≤◌, count_by, drop, length}
-use Rattle.nano_text.specs.Characters.{prefix}
-use Rattle.nano_text.specs.Place.{begins_character}
-use Rattle.nano_text.specs.String.{is_plain_in_line}
+use Rattle.std.proofs.Common.{◌-◌, length}
+use Rattle.nano_text.proofs.Measured.{IsMeasuredTo}
 use Rattle.nano_text.proofs.body.line_run.Given as goal
 
-abbrev pub invariant-loop-more : goal.invariant-loop-more
-invariant-loop-more l = record {
-  len : length (prefix is_plain_in_line l.bytes)
-      ≡ l.ascii + l.more + length (prefix is_plain_in_line (drop (l.ascii + l.more) l.bytes));
-  columns : count_by begins_character (prefix is_plain_in_line l.bytes)
-      ≡ l.columns + count_by begins_character (prefix is_plain_in_line (drop (l.ascii + l.more) l.bytes));
-  few : l.columns ≤ l.ascii + l.more;
-}
+abbrev pub invariant-lanes : goal.invariant-lanes
+invariant-lanes l = IsMeasuredTo l.bytes l.len l.columns
+
+abbrev pub decreases-lanes : goal.decreases-lanes
+decreases-lanes l = length l.bytes - l.len

@@ -1,7 +1,8 @@
 use Rattle.std.proofs.Common.{◌≡◌, ◌+◌, ◌-◌, ◌*◌, arith}
 use Rattle.std.proofs.lemmas.Str.{IsCharBoundary-from_ascii}
 use Rattle.nano_text.specs.declared.triples.TheConstants.{TRIPLES}
-use Rattle.nano_text.proofs.LaneMasks.{padded_entry, triples_ascii}
+use Rattle.nano_text.proofs.LaneMasks.{triples_ascii}
+use Rattle.nano_text.proofs.TripleDigits.{padded_entry}
 use Rattle.nano_text.proofs.triples.padded_triple.Goals as goal
 
 pub range-requires-clause-start_boundary : goal.range-requires-clause-start_boundary
