@@ -25,7 +25,7 @@ pub(crate) fn agreement_of<'a>(
 ) -> Result<Agreement, Fault> {
     let terms = terms(sheet.alloc, definition, full)?;
     Ok(Agreement {
-        agrees: sheet.short(terms.agrees.as_str())?,
+        agrees: sheet.short(terms.agrees.as_str()),
         decodable: terms.decodable,
     })
 }

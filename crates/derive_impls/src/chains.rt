@@ -36,7 +36,7 @@ pub(crate) fn append_chains<'a>(
     let held = held_types(sheet.alloc, variants, "$TYPE")?;
     append_owned_chains(sheet, target, variants, (schemas, &held))?;
     let named = named_by(sheet.alloc, &target.parameters, variants)?;
-    let either = either_of(sheet, variants.len())?;
+    let either = either_of(sheet, variants.len());
     let refs = Chain {
         full: target.refs.as_str(),
         before: "<'a",
@@ -49,9 +49,9 @@ pub(crate) fn append_chains<'a>(
 }
 
 /// What opens the list of a first variant and the rest of so many, if there is a rest.
-fn either_of(sheet: &mut Sheet, count: usize) -> Result<String, AllocError> {
+fn either_of(sheet: &mut Sheet, count: usize) -> String {
     match count {
-        1 => Ok(String::new(sheet.alloc)),
+        1 => String::new(sheet.alloc),
         _ => sheet.short("nano_schema::Either<"),
     }
 }
@@ -66,7 +66,7 @@ pub fn append_owned_chains<'a>(
 ) -> Result<(), AllocError> {
     append_variants(sheet, target, variants, (target.row.as_str(), schemas))?;
     let named = named_by(sheet.alloc, &target.parameters, variants)?;
-    let either = either_of(sheet, variants.len())?;
+    let either = either_of(sheet, variants.len());
     let values = Chain {
         full: target.values.as_str(),
         before: "",
@@ -129,7 +129,7 @@ fn append_chain<'a>(
             Some(rest) => link(sheet.alloc, chain, first, rest.as_str(), before)?,
             None => first.piece(sheet.alloc, 0, before)?,
         };
-        sheet.alias(full.as_str(), of.laid.as_str())?;
+        sheet.alias(full.as_str(), of.laid.as_str());
         later = Some(full);
     }
     Ok(())
@@ -170,9 +170,9 @@ fn link_name<'a>(
         return String::from_str(alloc, chain.full);
     }
     let (name, _arguments) = chain.full.split_once('<').unwrap_or((chain.full, ""));
-    let wanted = format!(in alloc; "{name}{}", i.saturating_add(1))?;
+    let wanted = sheet.made(format!(in alloc; "{name}{}", i.saturating_add(1)));
     let mut name = sheet.names.take(alloc, wanted.as_str())?;
-    name.push_str(bounds(alloc, chain.before, parameters, "")?.as_str())?;
+    sheet.add_made(&mut name, bounds(alloc, chain.before, parameters, ""));
     Ok(name)
 }
 

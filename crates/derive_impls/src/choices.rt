@@ -4,7 +4,7 @@ use crate::chains::append_chains;
 use crate::codecs::append_codecs;
 use crate::fields::{append_fields, are_skipped, row_fields};
 use crate::forms::CHOICE;
-use crate::labels::{append_labels, name_of};
+use crate::labels::{append_labels, name_of, variant_names};
 use crate::layout::Items;
 use crate::making::making;
 use crate::names::in_type_name;
@@ -15,7 +15,7 @@ use crate::target::Target;
 use crate::tuples::part_types;
 use crate::variants::{arms, tuple_of};
 use crate::views::{cases, variant_imports};
-use derive_syntax::{Content, Type, Variant, variant_name};
+use derive_syntax::{Content, Type, Variant};
 use std::alloc::AllocError;
 
 /// Appends the impls of an enum.
@@ -24,10 +24,7 @@ pub(crate) fn append_choice<'a>(
     target: &Target<'a>,
     variants: &[Variant<'a>],
 ) -> Result<(), AllocError> {
-    let mut names = Vec::new(sheet.alloc);
-    for variant in variants {
-        names.push(variant_name(sheet.alloc, variant, target.attributes.case)?)?;
-    }
+    let names = variant_names(sheet, variants, target.attributes.case);
     let labels = append_labels(sheet, target.name.text, &names)?;
     let mut schemas = Vec::new(sheet.alloc);
     for (variant, label) in variants.iter().zip(labels) {
@@ -48,10 +45,10 @@ fn append_variant<'a>(
 ) -> Result<Leaf, AllocError> {
     let content = append_content(sheet, target, variant)?;
     let mut texts = Vec::new(sheet.alloc);
-    texts.push(label)?;
-    texts.push(content)?;
+    sheet.push(&mut texts, label);
+    sheet.push(&mut texts, content);
     Ok(Leaf {
-        open: sheet.short("nano_schema::Variant<")?,
+        open: sheet.short("nano_schema::Variant<"),
         texts,
         close: ">",
         around: Vec::new(sheet.alloc),
@@ -65,20 +62,20 @@ fn append_content<'a>(
     variant: &Variant<'a>,
 ) -> Result<String, AllocError> {
     let alloc = sheet.alloc;
-    let mut owner = String::from_str(alloc, target.name.text)?;
-    owner.push_str(in_type_name(alloc, variant.name.text)?.as_str())?;
+    let mut owner = sheet.made(String::from_str(alloc, target.name.text));
+    sheet.add_made(&mut owner, in_type_name(alloc, variant.name.text));
     let kind = match &variant.content {
-        Content::Nothing => return sheet.short("nano_schema::Unit"),
+        Content::Nothing => return Ok(sheet.short("nano_schema::Unit")),
         Content::Parts(parts) if parts.len() == 1 => "nano_schema::Newtype",
         Content::Parts(_) => "nano_schema::Tuple",
-        Content::Fields(fields) if are_skipped(fields) => return sheet.short(EMPTY),
+        Content::Fields(fields) if are_skipped(fields) => return Ok(sheet.short(EMPTY)),
         Content::Fields(_) => "nano_schema::Struct",
     };
-    let kind = sheet.short(kind)?;
+    let kind = sheet.short(kind);
     let types = content_types(alloc, &variant.content)?;
     let parameters = parameters_in(alloc, &target.parameters, &types)?;
     let mut held = name_of(sheet, owner.as_str(), "Parts")?;
-    held.push_str(bounds(alloc, "", &parameters, "")?.as_str())?;
+    sheet.add_made(&mut held, bounds(alloc, "", &parameters, ""));
     match &variant.content {
         Content::Nothing => {}
         Content::Parts(parts) => append_parts(sheet, held.as_str(), parts)?,
@@ -96,10 +93,12 @@ const EMPTY: &str = "nano_schema::Struct<nano_schema::Unit>";
 
 /// Appends the type of the parts of a tuple variant.
 fn append_parts<'a>(sheet: &mut Sheet, held: &str, parts: &[Type<'a>]) -> Result<(), AllocError> {
-    let types = part_types(sheet.alloc, parts, "$TYPE")?;
+    let alloc = sheet.alloc;
+    let types = part_types(alloc, parts, "$TYPE")?;
     let before = held.len().saturating_add("type  = ".len());
-    let row = tuple_of(sheet.alloc, &types, Items::Types, (0, before))?;
-    sheet.alias(held, row.as_str())
+    let row = sheet.made(tuple_of(alloc, &types, Items::Types, (0, before)));
+    sheet.alias(held, row.as_str());
+    Ok(())
 }
 
 const VIEW: &str = "
@@ -121,18 +120,20 @@ fn append_view<'a>(
     target: &Target<'a>,
     variants: &[Variant<'a>],
 ) -> Result<(), AllocError> {
+    let alloc = sheet.alloc;
     if variants.len() > 1 {
-        sheet.import(EITHER)?;
+        sheet.import(EITHER);
     }
-    let imports = variant_imports(sheet.alloc, target, variants)?;
-    let cases = cases(sheet.alloc, variants)?;
-    let making = making(sheet.alloc, variants)?;
-    let making = sheet.short(making.as_str())?;
+    let imports = sheet.made(variant_imports(alloc, target, variants));
+    let cases = sheet.made(cases(alloc, variants));
+    let making = sheet.made(making(alloc, variants));
+    let making = sheet.short(making.as_str());
     let mut holes = target.bounded_holes(sheet)?;
     holes.put("IMPORTS", imports.as_str());
     holes.put("CASES", cases.as_str());
     holes.put("MAKING", making.as_str());
-    sheet.write(VIEW, &holes)
+    sheet.write(VIEW, &holes);
+    Ok(())
 }
 
 const EITHER: &str =
@@ -167,23 +168,25 @@ fn append_references<'a>(
     target: &Target<'a>,
     variants: &[Variant<'a>],
 ) -> Result<(), AllocError> {
-    let arms = arms(sheet.alloc, variants)?;
+    let alloc = sheet.alloc;
+    let arms = sheet.made(arms(alloc, variants));
     let either = match variants.len() {
         1 => "",
-        _ => import_of_either(sheet)?,
+        _ => import_of_either(sheet),
     };
-    sheet.import("ghost use Rattle.nano_schema.specs.UserTypes.{LegalVariant};")?;
+    sheet.import("ghost use Rattle.nano_schema.specs.UserTypes.{LegalVariant};");
     let mut holes = target.bounded_holes(sheet)?;
     holes.put("EITHER", either);
     holes.put("ARMS", arms.as_str());
-    sheet.write(REFERENCES, &holes)
+    sheet.write(REFERENCES, &holes);
+    Ok(())
 }
 
 /// What brings `Either` into a body, where the module cannot bring it in.
-fn import_of_either(sheet: &mut Sheet) -> Result<&'static str, AllocError> {
-    let name = sheet.short("nano_schema::Either")?;
-    Ok(match name.as_str() {
+fn import_of_either(sheet: &mut Sheet) -> &'static str {
+    let name = sheet.short("nano_schema::Either");
+    match name.as_str() {
         "Either" => "",
         _ => "        use nano_schema::Either;\n\n",
-    })
+    }
 }

@@ -42,9 +42,9 @@ fn append_codec<'a>(
         return Ok(());
     }
     for line in imports {
-        sheet.import(*line)?;
+        sheet.import(*line);
     }
-    import_cited(sheet, target.agreement.agrees.as_str())?;
+    import_cited(sheet, target.agreement.agrees.as_str());
     append_impl(sheet, target, codec, CODEC, (DEFINITION, form.term, ""), "")?;
     if directions.writes {
         let (writer, arguments) = codec.writer;
@@ -71,7 +71,7 @@ fn append_reader<'a>(
     codec: &Codec,
 ) -> Result<(), AllocError> {
     if codec.says_decodable {
-        import_cited(sheet, target.agreement.decodable.as_str())?;
+        import_cited(sheet, target.agreement.decodable.as_str());
     }
     let (reader, arguments) = codec.reader;
     let read = if target.is_deep && form.is_by_codec {
@@ -105,7 +105,8 @@ fn append_impl<'a>(
     (template, body, arguments): (&str, &str, &str),
     taker: &str,
 ) -> Result<(), AllocError> {
-    let mut holes = target.holes(sheet.alloc);
+    let alloc = sheet.alloc;
+    let mut holes = target.holes(alloc);
     holes.put("MODULE", codec.module);
     holes.put("NAME", codec.name);
     holes.put("PROOF", codec.proof);
@@ -119,20 +120,20 @@ fn append_impl<'a>(
     let taker = holes.fill(taker)?;
     holes.put("TAKER", taker.as_str());
     let bound = holes.fill(bound)?;
-    let bounds = target.bounds(sheet.alloc, bound.as_str())?;
+    let bounds = target.bounds(alloc, bound.as_str())?;
     holes.put("BOUNDS", bounds.as_str());
     let text = holes.fill(template)?;
-    sheet.write(text.as_str(), &Holes::new(sheet.alloc))
+    sheet.write(text.as_str(), &Holes::new(alloc));
+    Ok(())
 }
 
 /// Brings in what a ghost term cites.
-fn import_cited(sheet: &mut Sheet, term: &str) -> Result<(), AllocError> {
+fn import_cited(sheet: &mut Sheet, term: &str) {
     for (name, line) in &CITED {
         if term.contains(*name) {
-            sheet.import(*line)?;
+            sheet.import(*line);
         }
     }
-    Ok(())
 }
 
 /// The names that the terms of a definition may cite, and the lines that bring them in.

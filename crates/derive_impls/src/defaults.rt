@@ -59,9 +59,10 @@ pub fn append_default<'a>(
     owner: &str,
     field: Field<'a>,
 ) -> Result<String, AllocError> {
+    let alloc = sheet.alloc;
     let (kind, given) = match missing_value(field) {
-        Missing::OfType => return sheet.short("nano_schema::TypeDefault"),
-        Missing::Path(path) => return path_text(sheet.alloc, path),
+        Missing::OfType => return Ok(sheet.short("nano_schema::TypeDefault")),
+        Missing::Path(path) => return path_text(alloc, path),
         Missing::Whole(number) => (&WHOLE, number),
         Missing::Signed(number) => match number.strip_prefix('-') {
             Some(digits) => (&NEGATIVE, digits),
@@ -70,29 +71,28 @@ pub fn append_default<'a>(
         Missing::Truth(word) => (&TRUTH, word),
         Missing::Text(text) => (&TEXT, text),
     };
-    sheet.import(kind.import)?;
-    import_constants(sheet, kind, given)?;
-    let wanted = format!(in sheet.alloc; "{}_default", field.name.text)?;
+    sheet.import(kind.import);
+    import_constants(sheet, kind, given);
+    let wanted = sheet.made(format!(in alloc; "{}_default", field.name.text));
     let name = name_of(sheet, owner, wanted.as_str())?;
     append_given(sheet, target, name.as_str(), field, (kind, given))?;
     Ok(name)
 }
 
 /// Brings in the constants that the meaning of a default has.
-fn import_constants(sheet: &mut Sheet, kind: &Given, given: &str) -> Result<(), AllocError> {
+fn import_constants(sheet: &mut Sheet, kind: &Given, given: &str) {
     if kind.meaning.contains("pos ") {
-        sheet.import("ghost use Rattle.std.specs.Prelude.{pos};")?;
+        sheet.import("ghost use Rattle.std.specs.Prelude.{pos};");
     }
     if kind.meaning.contains("neg_ℤ ") {
-        sheet.import("ghost use Rattle.std.specs.Prelude.{neg_ℤ};")?;
+        sheet.import("ghost use Rattle.std.specs.Prelude.{neg_ℤ};");
     }
     if kind.meaning.starts_with("truth ") {
         sheet.import(match given {
             "true" => "ghost use Rattle.std.specs.Prelude.{true};",
             _ => "ghost use Rattle.std.specs.Prelude.{false};",
-        })?;
+        });
     }
-    Ok(())
 }
 
 const DEFAULT: &str = "
@@ -126,8 +126,9 @@ fn append_given<'a>(
     field: Field<'a>,
     (kind, given): (&Given, &str),
 ) -> Result<(), AllocError> {
-    let of = type_text(sheet.alloc, field.of)?;
-    let mut holes = Holes::new(sheet.alloc);
+    let alloc = sheet.alloc;
+    let of = sheet.made(type_text(alloc, field.of));
+    let mut holes = Holes::new(alloc);
     holes.put("GIVEN", given);
     holes.put("FIELD", field.name.text);
     holes.put("NAME", name);
@@ -137,12 +138,12 @@ fn append_given<'a>(
     holes.put("MEANING", meaning.as_str());
     let value = holes.fill(kind.value)?;
     holes.put("VALUE", value.as_str());
-    sheet.write(DEFAULT, &holes)?;
+    sheet.write(DEFAULT, &holes);
     if target.attributes.json.is_used() {
-        sheet.write(JSON, &holes)?;
+        sheet.write(JSON, &holes);
     }
     if target.attributes.ron.is_used() {
-        sheet.write(RON, &holes)?;
+        sheet.write(RON, &holes);
     }
     Ok(())
 }

@@ -52,11 +52,11 @@ pub(crate) fn append_fields<'a>(
         let mut leaf = schema_field(sheet, target, owner, *field, label)?;
         for _alias in &field.attributes.aliases(sheet.alloc)? {
             if let Some(label) = labels.next() {
-                let open = sheet.short("nano_schema::Aliased<")?;
+                let open = sheet.short("nano_schema::Aliased<");
                 leaf.around.push(Around { open, label })?;
             }
         }
-        leaves.push(leaf)?;
+        sheet.push(&mut leaves, leaf);
     }
     Ok(leaves)
 }
@@ -85,15 +85,17 @@ fn schema_field<'a>(
     field: Field<'a>,
     label: String,
 ) -> Result<Leaf, AllocError> {
-    let mut texts = Vec::new(sheet.alloc);
+    let alloc = sheet.alloc;
+    let mut texts = Vec::new(alloc);
     let (open, part) = match (field.attributes.default, optional_part(field.of)) {
         (Some(_), _) => ("nano_schema::Defaulted<", field.of),
         (None, Some(part)) => ("nano_schema::Optional<", part),
         (None, None) => ("nano_schema::Required<", field.of),
     };
-    let open = sheet.short(open)?;
-    texts.push(label)?;
-    texts.push(type_text(sheet.alloc, part)?)?;
+    let open = sheet.short(open);
+    sheet.push(&mut texts, label);
+    let item = sheet.made(type_text(alloc, part));
+    sheet.push(&mut texts, item);
     if field.attributes.default.is_some() {
         texts.push(append_default(sheet, target, owner, field)?)?;
     }
@@ -101,7 +103,7 @@ fn schema_field<'a>(
         open,
         texts,
         close: ">",
-        around: Vec::new(sheet.alloc),
+        around: Vec::new(alloc),
     })
 }
 
@@ -122,6 +124,6 @@ pub fn field_texts<'a>(
 fn field_text<'a>(alloc: Global, field: Field<'a>, template: &str) -> Result<String, AllocError> {
     let mut holes = Holes::new(alloc);
     holes.put("NAME", field.name.text);
-    holes.put("TYPE", type_text(alloc, field.of)?.as_str());
+    holes.put_made("TYPE", type_text(alloc, field.of));
     holes.fill(template)
 }

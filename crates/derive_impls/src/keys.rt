@@ -1,24 +1,12 @@
 //! Keys: that `==` and `cmp` of a type are those of what its values mean.
 
-use crate::held::in_turn;
 use crate::key_names::CITED;
+use crate::key_terms::{Terms, library_terms, of_terms, tuple_terms};
 use crate::sheet::Sheet;
 use crate::target::Target;
-use crate::tuples::{PLACES, named};
 use crate::views::imports_of;
 use derive_syntax::{Fault, Holes, Shape, Token, Type, Variant, listed, tuple_parts};
 use std::alloc::{AllocError, Global};
-
-/// The ghost terms of a type that is a key.
-#[derive(Drop)]
-pub(crate) struct Terms {
-    /// That two values are equal where they mean the same.
-    exact: String,
-    /// That two values compare as what they mean does.
-    follows: String,
-    /// Lines that bring in what they cite of the types of the file.
-    imports: String,
-}
 
 /// A key that later ones may have as a part.
 #[derive(Drop)]
@@ -55,7 +43,7 @@ pub(crate) fn append_key<'a>(
         Shape::Variants(variants) => of_variants(sheet.alloc, target, variants)?,
     };
     let order = order_of(sheet, target, shape)?;
-    append_impls(sheet, target, &terms, order.as_str())?;
+    append_impls(sheet, target, &terms, order.as_str());
     if target.parameters.is_empty() {
         let known = known_key(sheet.alloc, target.name.text, &terms)?;
         sheet.keys.push(known)?;
@@ -72,7 +60,7 @@ fn order_of<'a>(
     let row = match shape {
         Shape::Parts(parts) if parts.len() > 1 => target.values.as_str(),
         Shape::Variants(_) => {
-            sheet.import("ghost use Rattle.nano_schema.specs.UserTypes.{variants};")?;
+            sheet.import("ghost use Rattle.nano_schema.specs.UserTypes.{variants};");
             return String::from_str(sheet.alloc, "variants");
         }
         _ => target.row.as_str(),
@@ -81,63 +69,36 @@ fn order_of<'a>(
 }
 
 /// Appends the impls of a key that has these terms and this order.
-fn append_impls<'a>(
-    sheet: &mut Sheet,
-    target: &Target<'a>,
-    terms: &Terms,
-    order: &str,
-) -> Result<(), AllocError> {
+fn append_impls<'a>(sheet: &mut Sheet, target: &Target<'a>, terms: &Terms, order: &str) {
+    let alloc = sheet.alloc;
     for (name, line) in &CITED {
         if terms.exact.as_str().contains(*name) || terms.follows.as_str().contains(*name) {
-            sheet.import(*line)?;
+            sheet.import(*line);
         }
     }
-    let key = sheet.short(": nano_schema::Key")?;
-    let sorted = sheet.short(": nano_schema::OrderedKey")?;
-    let mut holes = target.holes(sheet.alloc);
-    holes.put("BOUNDS", target.bounds(sheet.alloc, key.as_str())?.as_str());
-    holes.put(
-        "SORTED",
-        target.bounds(sheet.alloc, sorted.as_str())?.as_str(),
-    );
-    holes.put("ORDER", sheet.short(order)?.as_str());
-    holes.put("EXACT", sheet.short(terms.exact.as_str())?.as_str());
-    holes.put("FOLLOWS", sheet.short(terms.follows.as_str())?.as_str());
+    let key = sheet.short(": nano_schema::Key");
+    let sorted = sheet.short(": nano_schema::OrderedKey");
+    let mut holes = target.holes(alloc);
+    holes.put_made("BOUNDS", target.bounds(alloc, key.as_str()));
+    holes.put_made("SORTED", target.bounds(alloc, sorted.as_str()));
+    holes.put("ORDER", sheet.short(order).as_str());
+    holes.put("EXACT", sheet.short(terms.exact.as_str()).as_str());
+    holes.put("FOLLOWS", sheet.short(terms.follows.as_str()).as_str());
     let end = if terms.imports.is_empty() { "" } else { "\n" };
-    let imports = format!(in sheet.alloc; "{}{end}", terms.imports)?;
+    let imports = sheet.made(format!(in alloc; "{}{end}", terms.imports));
     holes.put("IMPORTS", imports.as_str());
-    sheet.write(KEY, &holes)
+    sheet.write(KEY, &holes);
 }
 
 /// The terms of a struct: those of the pair of its first part and the pair of the others.
 fn of_parts<'a>(sheet: &Sheet, target: &Target<'a>, parts: &[Type<'a>]) -> Result<Terms, Fault> {
     let alloc = sheet.alloc;
-    let mut exact = Vec::new(alloc);
-    let mut follows = Vec::new(alloc);
-    let mut imports = String::new(alloc);
+    let mut terms = Vec::new(alloc);
     for part in parts {
-        let terms = part_terms(alloc, &sheet.keys, &target.parameters, *part, part.0.len())?;
-        add_lines(&mut imports, terms.imports.as_str())?;
-        exact.push(terms.exact)?;
-        follows.push(terms.follows)?;
+        let depth = part.0.len();
+        terms.push(part_terms(alloc, &sheet.keys, &target.parameters, *part, depth)?)?;
     }
-    let one = in_turn(alloc, &named(alloc, "x.", &PLACES, parts.len())?, "", ", ")?;
-    let other = in_turn(alloc, &named(alloc, "y.", &PLACES, parts.len())?, "", ", ")?;
-    let exact = in_turn(alloc, &exact, "exact_pair ", " ")?;
-    let follows = in_turn(alloc, &follows, "ordered_pair ", " ")?;
-    Ok(Terms {
-        exact: format!(in alloc; "λ x y. {exact}.exact {one} {other}")?,
-        follows: format!(in alloc; "λ x y. {follows}.follows {one} {other}")?,
-        imports,
-    })
-}
-
-/// Appends lines, if they are not there yet.
-fn add_lines(text: &mut String, lines: &str) -> Result<(), AllocError> {
-    if text.as_str().contains(lines) {
-        return Ok(());
-    }
-    text.push_str(lines)
+    Ok(of_terms(alloc, &terms)?)
 }
 
 /// The terms of an enum, whose values are listed.
@@ -259,34 +220,4 @@ fn word_terms<'a>(
         "String" => Ok(library_terms(alloc, "text")?),
         _ => Err(word.fault(NO_PART)),
     }
-}
-
-/// The terms of a type of the library.
-fn library_terms(alloc: Global, kind: &str) -> Result<Terms, AllocError> {
-    Ok(Terms {
-        exact: format!(in alloc; "exact_{kind}")?,
-        follows: format!(in alloc; "ordered_{kind}")?,
-        imports: String::new(alloc),
-    })
-}
-
-/// The terms of a tuple of this kind, whose parts have these.
-fn tuple_terms(alloc: Global, kind: &str, parts: &[Terms]) -> Result<Terms, AllocError> {
-    let mut exact = format!(in alloc; "(exact_{kind}")?;
-    let mut follows = format!(in alloc; "(ordered_{kind}")?;
-    let mut imports = String::new(alloc);
-    for part in parts {
-        exact.push(' ')?;
-        exact.push_str(part.exact.as_str())?;
-        follows.push(' ')?;
-        follows.push_str(part.follows.as_str())?;
-        add_lines(&mut imports, part.imports.as_str())?;
-    }
-    exact.push(')')?;
-    follows.push(')')?;
-    Ok(Terms {
-        exact,
-        follows,
-        imports,
-    })
 }

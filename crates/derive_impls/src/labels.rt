@@ -2,8 +2,23 @@
 
 use crate::names::in_type_name;
 use crate::sheet::Sheet;
-use derive_syntax::Holes;
+use derive_syntax::{Case, Holes, Variant, variant_name};
 use std::alloc::{AllocError, Global};
+
+/// The names of variants in JSON and RON, in this case.
+pub fn variant_names<'a>(
+    sheet: &mut Sheet,
+    variants: &[Variant<'a>],
+    case: Option<Case>,
+) -> Vec<String> {
+    let alloc = sheet.alloc;
+    let mut names = Vec::new(alloc);
+    for variant in variants {
+        let name = sheet.made(variant_name(alloc, variant, case));
+        sheet.push(&mut names, name);
+    }
+    names
+}
 
 const LABEL: &str = "
 struct $LABEL {}
@@ -36,40 +51,42 @@ pub fn append_labels(
     owner: &str,
     names: &[String],
 ) -> Result<Vec<String>, AllocError> {
-    let mut labels = Vec::new(sheet.alloc);
+    let alloc = sheet.alloc;
+    let mut labels = Vec::new(alloc);
     if let [name] = names {
         let label = name_of(sheet, owner, "Name")?;
-        append_label(sheet, label.as_str(), name.as_str())?;
-        labels.push(label)?;
+        append_label(sheet, label.as_str(), name.as_str());
+        sheet.push(&mut labels, label);
     } else if !names.is_empty() {
         let label = name_of(sheet, owner, "Names")?;
-        append_numbered(sheet, label.as_str(), names)?;
+        append_numbered(sheet, label.as_str(), names);
         for i in 0..names.len() {
-            labels.push(format!(in sheet.alloc; "{label}<{i}>")?)?;
+            let item = sheet.made(format!(in alloc; "{label}<{i}>"));
+            sheet.push(&mut labels, item);
         }
     }
     Ok(labels)
 }
 
 /// Appends the type that stands for a name.
-fn append_label(sheet: &mut Sheet, label: &str, name: &str) -> Result<(), AllocError> {
-    sheet.import("ghost use Rattle.std.specs.Prelude.{codes};")?;
+fn append_label(sheet: &mut Sheet, label: &str, name: &str) {
+    sheet.import("ghost use Rattle.std.specs.Prelude.{codes};");
     let mut holes = Holes::new(sheet.alloc);
     holes.put("TEXT", name);
     holes.put("LABEL", label);
-    sheet.write(LABEL, &holes)
+    sheet.write(LABEL, &holes);
 }
 
 /// Appends the type that stands for several names, by their numbers.
-fn append_numbered(sheet: &mut Sheet, label: &str, names: &[String]) -> Result<(), AllocError> {
-    sheet.import("ghost use Rattle.std.specs.Prelude.{codes};")?;
-    sheet.import("ghost use Rattle.std.specs.Prelude.{◌==◌};")?;
-    sheet.import("ghost use Rattle.std.specs.Prelude.{if◌then◌else◌};")?;
+fn append_numbered(sheet: &mut Sheet, label: &str, names: &[String]) {
+    sheet.import("ghost use Rattle.std.specs.Prelude.{codes};");
+    sheet.import("ghost use Rattle.std.specs.Prelude.{◌==◌};");
+    sheet.import("ghost use Rattle.std.specs.Prelude.{if◌then◌else◌};");
     let mut holes = Holes::new(sheet.alloc);
-    holes.put("CASES", cases(sheet.alloc, names)?.as_str());
-    holes.put("ARMS", arms(sheet.alloc, names)?.as_str());
+    holes.put_made("CASES", cases(sheet.alloc, names));
+    holes.put_made("ARMS", arms(sheet.alloc, names));
     holes.put("LABEL", label);
-    sheet.write(LABELS, &holes)
+    sheet.write(LABELS, &holes);
 }
 
 /// The names in a ghost term, each on a line. The last one stands for every later number, too.
@@ -103,7 +120,8 @@ fn arms(alloc: Global, names: &[String]) -> Result<String, AllocError> {
 
 /// A free name for something of an owner.
 pub fn name_of(sheet: &mut Sheet, owner: &str, name: &str) -> Result<String, AllocError> {
-    let mut wanted = String::from_str(sheet.alloc, owner)?;
-    wanted.push_str(in_type_name(sheet.alloc, name)?.as_str())?;
-    sheet.names.take(sheet.alloc, wanted.as_str())
+    let alloc = sheet.alloc;
+    let mut wanted = sheet.made(String::from_str(alloc, owner));
+    sheet.add_made(&mut wanted, in_type_name(alloc, name));
+    sheet.names.take(alloc, wanted.as_str())
 }

@@ -14,6 +14,7 @@ mod flat;
 mod forms;
 mod held;
 mod key_names;
+mod key_terms;
 mod keys;
 pub mod labels;
 pub mod layout;

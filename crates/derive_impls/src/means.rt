@@ -32,20 +32,21 @@ pub(crate) fn with_law(sheet: &mut Sheet, codec: &Codec, read: &str) -> Result<S
 
 /// The name of the law of a format, which is appended where it is not there.
 fn law_of(sheet: &mut Sheet, codec: &Codec) -> Result<String, AllocError> {
+    let alloc = sheet.alloc;
     for (module, name) in &sheet.laws {
         if *module == codec.module {
             return name.clone();
         }
     }
-    let wanted = format!(in sheet.alloc; "means_as_{}", codec.module)?;
-    let name = sheet.names.take(sheet.alloc, wanted.as_str())?;
-    sheet.import("ghost use Rattle.std.specs.Prelude.{◌≡◌};")?;
-    let mut holes = Holes::new(sheet.alloc);
+    let wanted = sheet.made(format!(in alloc; "means_as_{}", codec.module));
+    let name = sheet.names.take(alloc, wanted.as_str())?;
+    sheet.import("ghost use Rattle.std.specs.Prelude.{◌≡◌};");
+    let mut holes = Holes::new(alloc);
     holes.put("MODULE", codec.module);
     holes.put("NAME", codec.name);
     holes.put("LAW", name.as_str());
     let text = holes.fill(LAW)?;
-    sheet.write(text.as_str(), &Holes::new(sheet.alloc))?;
+    sheet.write(text.as_str(), &Holes::new(alloc));
     sheet.laws.push((codec.module, name.clone()?))?;
     Ok(name)
 }

@@ -94,7 +94,8 @@ pub fn append_row(sheet: &mut Sheet, name: &str, leaves: &[Leaf]) -> Result<(), 
     }
     let before = name.len().saturating_add("type  = ".len());
     let row = pairs(sheet.alloc, leaves, Items::Types, 0, before)?;
-    sheet.alias(name, row.laid.as_str())
+    sheet.alias(name, row.laid.as_str());
+    Ok(())
 }
 
 /// Texts as nested pairs, on a line that is indented so far, after so many columns of it.

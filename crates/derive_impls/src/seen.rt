@@ -67,5 +67,6 @@ pub(crate) fn append_seen<'a>(
     holes.put("TAKEN", seen.taken.as_str());
     holes.put("MADE", seen.made.as_str());
     holes.put("BORROWED", seen.borrowed.as_str());
-    sheet.write(RECORD, &holes)
+    sheet.write(RECORD, &holes);
+    Ok(())
 }

@@ -1,4 +1,5 @@
-//! What is written, line by line.
+//! What is written, line by line. That memory ran out is reported at the end of it, and not at each
+//! step.
 
 use crate::keys::Known;
 use crate::layout::{COLUMNS, start_line, width};
@@ -29,6 +30,8 @@ pub struct Sheet {
     pub(crate) laws: Vec<(&'static str, String)>,
     /// The keys that were written.
     pub(crate) keys: Vec<Known>,
+    /// Whether there was no memory for a part of it.
+    lacks_memory: bool,
 }
 
 /// What brings in ghost names of a module.
@@ -61,16 +64,61 @@ impl Sheet {
             uses: Uses::new(alloc)?,
             laws: Vec::new(alloc),
             keys: Vec::new(alloc),
+            lacks_memory: false,
         })
     }
 
+    /// Takes note of a step for which there was no memory.
+    fn note(&mut self, step: Result<(), AllocError>) {
+        if step.is_err() {
+            self.lacks_memory = true;
+        }
+    }
+
+    /// A text that was made. It is empty where there was no memory for it.
+    pub fn made(&mut self, text: Result<String, AllocError>) -> String {
+        match text {
+            Ok(text) => text,
+            Err(AllocError) => {
+                self.lacks_memory = true;
+                String::new(self.alloc)
+            }
+        }
+    }
+
+    /// Appends to a text.
+    pub fn add(&mut self, text: &mut String, more: &str) {
+        let step = text.push_str(more);
+        self.note(step);
+    }
+
+    /// Appends to a text one that was made.
+    pub fn add_made(&mut self, text: &mut String, more: Result<String, AllocError>) {
+        let more = self.made(more);
+        self.add(text, more.as_str());
+    }
+
+    /// Appends to a list.
+    pub fn push<T: Drop>(&mut self, items: &mut Vec<T>, item: T) {
+        if items.push(item).is_err() {
+            self.lacks_memory = true;
+        }
+    }
+
     /// A text in which each item that can be brought in is said by its name alone, and is.
-    pub fn short(&mut self, text: &str) -> Result<String, AllocError> {
-        self.uses.short(&mut self.names, text)
+    pub fn short(&mut self, text: &str) -> String {
+        let short = self.uses.short(&mut self.names, text);
+        self.made(short)
     }
 
     /// Brings in what a line brings in: `ghost use`, a module, and names between braces.
-    pub fn import(&mut self, line: &'static str) -> Result<(), AllocError> {
+    pub fn import(&mut self, line: &'static str) {
+        let step = self.add_import(line);
+        self.note(step);
+    }
+
+    /// The same, if there is memory for it.
+    fn add_import(&mut self, line: &'static str) -> Result<(), AllocError> {
         let (module, names) = line.split_once(".{").unwrap_or((line, "};"));
         let names = names.strip_suffix("};").unwrap_or(names);
         for import in &mut self.imports {
@@ -87,21 +135,21 @@ impl Sheet {
     }
 
     /// Appends the name of a type.
-    pub fn alias(&mut self, name: &str, of: &str) -> Result<(), AllocError> {
+    pub fn alias(&mut self, name: &str, of: &str) {
         let mut holes = Holes::new(self.alloc);
         holes.put("NAME", name);
         holes.put("OF", of);
-        self.write("\ntype $NAME = $OF;", &holes)
+        self.write("\ntype $NAME = $OF;", &holes);
     }
 
     /// Appends the lines of a template, in which items are said by their names alone.
-    pub fn write(&mut self, template: &str, holes: &Holes) -> Result<(), AllocError> {
-        let template = self.short(template)?;
-        let text = holes.fill(template.as_str())?;
+    pub fn write(&mut self, template: &str, holes: &Holes) {
+        let template = self.short(template);
+        let text = self.made(holes.fill(template.as_str()));
         for line in text.split('\n') {
-            self.line(line)?;
+            let step = self.line(line);
+            self.note(step);
         }
-        Ok(())
     }
 
     /// Appends a line. One that is too long becomes several if it is the head of an impl or of a
@@ -193,7 +241,14 @@ impl Sheet {
     }
 
     /// What the module is, the lines that bring names in, and then the items.
+    ///
+    /// # Errors
+    ///
+    /// There was no memory for a part of it.
     pub fn finish(self) -> Result<String, AllocError> {
+        if self.lacks_memory {
+            return Err(AllocError);
+        }
         let mut output = String::from_str(self.alloc, HEAD)?;
         for import in &self.imports {
             append_import(&mut output, import)?;

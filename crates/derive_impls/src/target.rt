@@ -70,30 +70,31 @@ impl<'a> Target<'a> {
         definition: &Definition<'a>,
         is_nested: bool,
     ) -> Result<Target<'a>, Fault> {
+        let alloc = sheet.alloc;
         let name = definition.name.text;
-        let arguments = bounds(sheet.alloc, "", &definition.parameters, "")?;
-        let full = format!(in sheet.alloc; "{name}{arguments}")?;
-        let borrowed = bounds(sheet.alloc, "<'a", &definition.parameters, "")?;
+        let arguments = sheet.made(bounds(alloc, "", &definition.parameters, ""));
+        let full = sheet.made(format!(in alloc; "{name}{arguments}"));
+        let borrowed = sheet.made(bounds(alloc, "<'a", &definition.parameters, ""));
         Ok(Target {
             row: row_name(sheet, definition, arguments.as_str())?,
             values: type_name(sheet, name, "Values", arguments.as_str())?,
             refs: type_name(sheet, name, "Refs", borrowed.as_str())?,
             agreement: if is_nested {
-                agreed(sheet.alloc)?
+                agreed(alloc)?
             } else {
                 agreement_of(sheet, definition, full.as_str())?
             },
             parameters: definition.parameters.clone()?,
-            open: opening(sheet.alloc, &definition.bounds)?,
+            open: opening(alloc, &definition.bounds)?,
             is_deep: are_deep(
                 &definition.parameters,
-                &shape_types(sheet.alloc, &definition.shape)?,
+                &shape_types(alloc, &definition.shape)?,
             ),
             full,
             module,
             name: definition.name,
             attributes: definition.attributes,
-            cycle: Vec::new(sheet.alloc),
+            cycle: Vec::new(alloc),
             root: definition.name,
             counted: definition.attributes,
         })
@@ -129,10 +130,10 @@ impl<'a> Target<'a> {
     /// The holes that its names and its parameters stand in, each of which is a `Value`.
     pub(crate) fn bounded_holes(&self, sheet: &mut Sheet) -> Result<Holes, AllocError> {
         let mut holes = self.holes(sheet.alloc);
-        let bound = sheet.short(": nano_schema::Value")?;
+        let bound = sheet.short(": nano_schema::Value");
         let bounds = self.bounds(sheet.alloc, bound.as_str())?;
         holes.put("BOUNDS", bounds.as_str());
-        let bound = sheet.short(": nano_schema::Value + 'a")?;
+        let bound = sheet.short(": nano_schema::Value + 'a");
         let borrowed = self.borrowed_bounds(sheet.alloc, bound.as_str())?;
         holes.put("LIFETIME", borrowed.as_str());
         Ok(holes)
@@ -157,7 +158,7 @@ fn row_name<'a>(
 ) -> Result<String, AllocError> {
     let end = match &definition.shape {
         Shape::Variants(_) => "Variants",
-        Shape::Fields(fields) if are_skipped(fields) => return sheet.short(NO_ROW),
+        Shape::Fields(fields) if are_skipped(fields) => return Ok(sheet.short(NO_ROW)),
         _ => "Fields",
     };
     type_name(sheet, definition.name.text, end, arguments)
@@ -170,8 +171,9 @@ fn type_name(
     end: &str,
     arguments: &str,
 ) -> Result<String, AllocError> {
-    let wanted = format!(in sheet.alloc; "{name}{end}")?;
-    let mut text = sheet.names.take(sheet.alloc, wanted.as_str())?;
-    text.push_str(arguments)?;
+    let alloc = sheet.alloc;
+    let wanted = sheet.made(format!(in alloc; "{name}{end}"));
+    let mut text = sheet.names.take(alloc, wanted.as_str())?;
+    sheet.add(&mut text, arguments);
     Ok(text)
 }

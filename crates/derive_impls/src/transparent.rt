@@ -27,12 +27,13 @@ pub(crate) fn append_transparent<'a>(
     target: &Target<'a>,
     part: Type<'a>,
 ) -> Result<(), AllocError> {
-    let of = type_text(sheet.alloc, part)?;
-    let bound = sheet.short(": nano_schema::Value")?;
-    let bounds = target.bounds(sheet.alloc, bound.as_str())?;
-    let mut holes = target.holes(sheet.alloc);
+    let alloc = sheet.alloc;
+    let of = sheet.made(type_text(alloc, part));
+    let bound = sheet.short(": nano_schema::Value");
+    let bounds = target.bounds(alloc, bound.as_str())?;
+    let mut holes = target.holes(alloc);
     holes.put("OF", of.as_str());
     holes.put("BOUNDS", bounds.as_str());
-    sheet.write(VALUE, &holes)?;
+    sheet.write(VALUE, &holes);
     append_codecs(sheet, target, &TRANSPARENT, &TRANSPARENT)
 }

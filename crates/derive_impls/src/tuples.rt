@@ -2,7 +2,7 @@
 
 use crate::codecs::append_codecs;
 use crate::forms::{RECORD, tupled};
-use crate::layout::Items;
+use crate::layout::{Items, Piece};
 use crate::seen::{Seen, append_seen};
 use crate::sheet::Sheet;
 use crate::target::Target;
@@ -17,16 +17,17 @@ pub(crate) fn append_tuple<'a>(
     target: &Target<'a>,
     parts: &[Type<'a>],
 ) -> Result<(), AllocError> {
+    let alloc = sheet.alloc;
     let values = target.values.as_str();
-    let types = part_types(sheet.alloc, parts, "$TYPE")?;
+    let types = part_types(alloc, parts, "$TYPE")?;
     let before = values.len().saturating_add("type  = ".len());
-    let tuple = bracketed(sheet.alloc, ("(", ")"), &types, Items::Types, (0, before))?;
-    sheet.alias(values, tuple.laid.as_str())?;
-    let row = format!(in sheet.alloc; "nano_schema::Tuple<{values}>")?;
-    let row = sheet.short(row.as_str())?;
-    sheet.alias(target.row.as_str(), row.as_str())?;
-    append_seen(sheet, target, &seen(sheet.alloc, target, parts)?)?;
-    let write = parts_writer(sheet.alloc, parts.len())?;
+    let tuple = bracketed(alloc, ("(", ")"), &types, Items::Types, (0, before))?;
+    sheet.alias(values, tuple.laid.as_str());
+    let row = sheet.made(format!(in alloc; "nano_schema::Tuple<{values}>"));
+    let row = sheet.short(row.as_str());
+    sheet.alias(target.row.as_str(), row.as_str());
+    append_seen(sheet, target, &seen(alloc, target, parts)?)?;
+    let write = sheet.made(parts_writer(alloc, parts.len()));
     append_codecs(sheet, target, &RECORD, &tupled(write.as_str()))
 }
 
@@ -49,22 +50,44 @@ pub(crate) const PLACES: [&str; 4] = ["0", "1", "2", "3"];
 
 /// The struct as the tuple of its parts.
 fn seen<'a>(alloc: Global, target: &Target<'a>, parts: &[Type<'a>]) -> Result<Seen, AllocError> {
-    let count = parts.len();
-    let names = named(alloc, "", &PARTS, count)?;
-    let refs = part_types(alloc, parts, "&'a $TYPE")?;
-    let borrowed = named(alloc, "&self.", &PLACES, count)?;
-    let view = named(alloc, "x.", &PLACES, count)?;
-    let open = format!(in alloc; "{}(", target.name.text)?;
-    let made = (open.as_str(), ")");
-    let pattern = bracketed(alloc, ("(", ")"), &names, Items::Patterns, (8, 12))?.laid;
+    let names = named(alloc, "", &PARTS, parts.len())?;
     Ok(Seen {
         types: target.values.clone()?,
-        refs: bracketed(alloc, ("(", ")"), &refs, Items::Types, (4, 16))?.laid,
-        view: bracketed(alloc, ("(", ")"), &view, Items::Values, (0, 0))?.flat,
-        taken: format!(in alloc; "        let {pattern} = values;\n")?,
-        made: bracketed(alloc, made, &names, Items::Values, (8, 8))?.laid,
-        borrowed: bracketed(alloc, ("(", ")"), &borrowed, Items::Values, (8, 7))?.laid,
+        refs: references(alloc, parts)?,
+        view: placed(alloc, "x.", parts.len(), (0, 0))?.flat,
+        taken: taken(alloc, &names)?,
+        made: made(alloc, target, &names)?,
+        borrowed: placed(alloc, "&self.", parts.len(), (8, 7))?.laid,
     })
+}
+
+/// The type of the tuple of references to the parts.
+fn references<'a>(alloc: Global, parts: &[Type<'a>]) -> Result<String, AllocError> {
+    let refs = part_types(alloc, parts, "&'a $TYPE")?;
+    Ok(bracketed(alloc, ("(", ")"), &refs, Items::Types, (4, 16))?.laid)
+}
+
+/// The tuple of so many parts, each by its place after some text.
+fn placed(
+    alloc: Global,
+    before: &str,
+    count: usize,
+    place: (usize, usize),
+) -> Result<Piece, AllocError> {
+    let parts = named(alloc, before, &PLACES, count)?;
+    bracketed(alloc, ("(", ")"), &parts, Items::Values, place)
+}
+
+/// What takes the tuple apart, with these names.
+fn taken(alloc: Global, names: &[String]) -> Result<String, AllocError> {
+    let pattern = bracketed(alloc, ("(", ")"), names, Items::Patterns, (8, 12))?.laid;
+    format!(in alloc; "        let {pattern} = values;\n")
+}
+
+/// What makes the struct of parts with these names.
+fn made<'a>(alloc: Global, target: &Target<'a>, names: &[String]) -> Result<String, AllocError> {
+    let open = format!(in alloc; "{}(", target.name.text)?;
+    Ok(bracketed(alloc, (open.as_str(), ")"), names, Items::Values, (8, 8))?.laid)
 }
 
 /// A text for each part, from a template with its type.
@@ -83,7 +106,7 @@ pub fn part_types<'a>(
 /// A text for a part, from a template with its type.
 fn part_type<'a>(alloc: Global, part: Type<'a>, template: &str) -> Result<String, AllocError> {
     let mut holes = Holes::new(alloc);
-    holes.put("TYPE", type_text(alloc, part)?.as_str());
+    holes.put_made("TYPE", type_text(alloc, part));
     holes.fill(template)
 }
 

@@ -45,20 +45,29 @@ pub(crate) fn container_of<'a>(
     if let Some(parts) = tuple_parts(of) {
         return Ok(tuple_of(alloc, parts)?);
     }
+    match collection_of(of)? {
+        Some((container, Some(held))) => Ok(Some((container, one(alloc, held)?))),
+        Some((container, None)) => Ok(Some((container, Vec::new(alloc)))),
+        None => Ok(None),
+    }
+}
+
+/// The same of a type that is no tuple: it holds values of one other type at most.
+fn collection_of<'a>(of: Type<'a>) -> Result<Option<(Container<'a>, Option<Type<'a>>)>, Fault> {
     if let Some((item, count)) = array_of(of)? {
-        return Ok(Some((Container::Array(count), one(alloc, item)?)));
+        return Ok(Some((Container::Array(count), Some(item))));
     }
     let (Some(word), Some(held)) = (of.0.first(), between(of)) else {
         return Ok(None);
     };
     match word.text {
-        "LinkedList" => Ok(Some((Container::LinkedList, one(alloc, held)?))),
+        "LinkedList" => Ok(Some((Container::LinkedList, Some(held)))),
         "HashMap" => match keyed(held)? {
-            Some((key, value)) => Ok(Some((Container::HashMap(key), one(alloc, value)?))),
+            Some((key, value)) => Ok(Some((Container::HashMap(key), Some(value)))),
             None => Ok(None),
         },
-        "HashSet" => Ok(Some((Container::HashSet(key_of(held)?), Vec::new(alloc)))),
-        "BTreeSet" => Ok(Some((Container::BTreeSet(key_of(held)?), Vec::new(alloc)))),
+        "HashSet" => Ok(Some((Container::HashSet(key_of(held)?), None))),
+        "BTreeSet" => Ok(Some((Container::BTreeSet(key_of(held)?), None))),
         _ => Ok(None),
     }
 }

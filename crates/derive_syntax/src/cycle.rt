@@ -85,11 +85,21 @@ fn members<'a>(
 ) -> Result<Vec<Token<'a>>, AllocError> {
     let mut names = Vec::new(alloc);
     for other in &source.contained_in(alloc, name)? {
-        if name.is_among(&source.contained_in(alloc, *other)?) {
+        if is_contained(alloc, source, *other, name)? {
             names.push(*other)?;
         }
     }
     in_order(alloc, source, &names)
+}
+
+/// Whether a type contains another, by however many types of the file.
+fn is_contained<'a>(
+    alloc: Global,
+    source: &Source<'a>,
+    of: Token<'a>,
+    name: Token<'a>,
+) -> Result<bool, AllocError> {
+    Ok(name.is_among(&source.contained_in(alloc, of)?))
 }
 
 /// These names in the order of the file.
@@ -164,15 +174,29 @@ fn inward<'a>(
     let mut ordered = Vec::new(alloc);
     for _turn in names {
         for name in names {
-            let is_next = name.text != root.text && !name.is_among(&ordered);
-            let held = contained(alloc, source, *name, root.text)?;
-            if is_next && are_there(&held, names, &ordered) {
+            if is_next(alloc, source, names, (*name, root), &ordered)? {
                 ordered.push(*name)?;
             }
         }
     }
     ordered.push(root)?;
     Ok(ordered)
+}
+
+/// Whether a type, which is not the root, comes next: it is not there, and those of some types are
+/// that it contains.
+fn is_next<'a>(
+    alloc: Global,
+    source: &Source<'a>,
+    names: &[Token<'a>],
+    (name, root): (Token<'a>, Token<'a>),
+    there: &[Token<'a>],
+) -> Result<bool, AllocError> {
+    if name.text == root.text || name.is_among(there) {
+        return Ok(false);
+    }
+    let held = contained(alloc, source, name, root.text)?;
+    Ok(are_there(&held, names, there))
 }
 
 /// Whether those of some types that are among these are there.
@@ -209,10 +233,8 @@ fn add_contained<'a>(
 ) -> Result<(), AllocError> {
     for definition in &source.definitions {
         let other = definition.name;
-        if other.text != left_out
-            && !other.is_among(found)
-            && is_held(source, (name, found.as_slice()), other)
-        {
+        let is_new = other.text != left_out && !other.is_among(found);
+        if is_new && is_held(source, (name, found.as_slice()), other) {
             found.push(other)?;
         }
     }

@@ -94,6 +94,18 @@ pub fn nested_part<'a>(
     of: Type<'a>,
 ) -> Result<NestedPart<'a>, Fault> {
     let part = part_within(alloc, cycle, of, of.0.len())?;
+    check_ends(alloc, cycle, of, &part)?;
+    Ok(part)
+}
+
+/// An error where a part is the type itself and nothing ends it, or an `Option` of it is not the
+/// whole of the part.
+fn check_ends<'a>(
+    alloc: Global,
+    cycle: &Cycle<'a>,
+    of: Type<'a>,
+    part: &NestedPart<'a>,
+) -> Result<(), Fault> {
     let held = part.holders.get(1..).unwrap_or(&[]);
     if part.is_within() && held.contains(&Holder::Option) {
         return Err(fault_at(of, INNER));
@@ -102,7 +114,7 @@ pub fn nested_part<'a>(
         let (_holders, inner) = holders_of(alloc, of)?;
         return Err(fault_at(inner, ENDLESS));
     }
-    Ok(part)
+    Ok(())
 }
 
 /// What a type is made of, in which types stand in one another so deep at most.

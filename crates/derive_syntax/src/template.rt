@@ -35,6 +35,14 @@ impl Holes {
         }
     }
 
+    /// Puts a text that was made into the hole of this name, if there was memory for it.
+    pub fn put_made(&mut self, name: &'static str, text: Result<String, AllocError>) {
+        match text {
+            Ok(text) => self.put(name, text.as_str()),
+            Err(AllocError) => self.lacks_memory = true,
+        }
+    }
+
     /// Puts a text into the hole of this name, if there is memory for it.
     fn add(&mut self, name: &'static str, text: &str) -> Result<(), AllocError> {
         let text = String::from_str(self.alloc, text)?;

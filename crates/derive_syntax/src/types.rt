@@ -1,6 +1,7 @@
 //! What stands within a type: the parts of a tuple, and what stands between commas.
 
 use crate::syntax::Type;
+use crate::token::Token;
 use std::alloc::{AllocError, Global};
 
 /// The parts of a tuple, if the type is one.
@@ -13,15 +14,25 @@ pub fn tuple_parts<'a>(of: Type<'a>) -> Option<Type<'a>> {
     }
 }
 
+/// Whether a token is an opening bracket.
+fn opens(token: Token<'_>) -> bool {
+    token.is("<") || token.is("(") || token.is("[")
+}
+
+/// Whether a token is a closing bracket.
+fn closes(token: Token<'_>) -> bool {
+    token.is(">") || token.is(")") || token.is("]")
+}
+
 /// The types between the commas of such a list.
 pub fn listed<'a>(alloc: Global, list: Type<'a>) -> Result<Vec<Type<'a>>, AllocError> {
     let mut types = Vec::new(alloc);
     let mut depth = 0usize;
     let mut start = 0usize;
     for (i, token) in list.0.iter().enumerate() {
-        if token.is("<") || token.is("(") || token.is("[") {
+        if opens(*token) {
             depth = depth.saturating_add(1);
-        } else if token.is(">") || token.is(")") || token.is("]") {
+        } else if closes(*token) {
             depth = depth.saturating_sub(1);
         } else if token.is(",") && depth == 0 {
             types.push(Type(list.0.get(start..i).unwrap_or(&[])))?;

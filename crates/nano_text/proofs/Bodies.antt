@@ -138,10 +138,10 @@ reads_run before p q r written rest bytes part left more n columns h same length
 -- ---- one character of ASCII
 
 module _ (text after : List ℕ) (c : ℕ) (utf8 : IsUtf8 text) (is : text ≡ c ∷ after) (ascii : c < 128) where
-  utf8_after : IsUtf8 after
+  pub utf8_after : IsUtf8 after
   utf8_after = IsUtf8-past_char text after c utf8 (rw (encode_ascii c ascii) is)
 
-  chars_after : chars text ≡ c ∷ chars after
+  pub chars_after : chars text ≡ c ∷ chars after
   chars_after = chars_past_char text after c utf8 (rw (encode_ascii c ascii) is)
 
 -- ---- the closing quote

@@ -151,14 +151,19 @@ fn short_escape(bytes: &[u8]) -> Option<char>
     Some(escaped_char(char::from(escaped)))
 }
 
-/// Whether this byte comes after a first one, if it is given.
+/// Whether these bytes begin with this one, if it is given.
 #[inline(always)]
 fn goes_on(bytes: &[u8], next: Option<u8>) -> bool
-    ensures { next ≡ None → result ≡ true }
+    ensures yes { result ≡ true → IfSome next (λ byte. (rest : List ℕ) × (bytes.now ≡ byte ∷ rest)) }
+    ensures no { result ≡ false
+        → IfSome next (λ byte. (rest : List ℕ) × (bytes.now ≡ byte ∷ rest)) → ⊥ }
 {
-    match next {
-        Some(byte) => bytes.get(1) == Some(&byte),
-        None => true,
+    let Some(wanted) = next else {
+        return true;
+    };
+    match bytes.first() {
+        Some(byte) => *byte == wanted,
+        None => false,
     }
 }
 
@@ -178,20 +183,23 @@ pub fn plain_string<'a>(p: &mut Place, i: &mut Chars<'a>) -> Option<&'a str>
     plain_string_before(p, i, None)
 }
 
-/// The same, only where this byte comes right after it, if it is given. It is not taken, but what
-/// follows the string is known then, so that taking it costs next to nothing. The contract does not
-/// speak of this byte yet: a caller looks at what follows.
+/// The same, only where this character of ASCII comes right after it, if it is given. It is not
+/// taken, but what follows the string is known then, so that taking it costs next to nothing.
 #[inline(always)]
 pub fn plain_string_before<'a>(
     p: &mut Place,
     i: &mut Chars<'a>,
     next: Option<u8>,
 ) -> Option<&'a str>
+    requires ascii { IfSome next (λ byte. (0 < byte) × (byte < 128)) }
     ensures found { IfSome result (λ text. (characters : List ℕ)
         × IsString (text_at p.old i.old) characters (text_at p.new i.new)
         × (text.now ≡ encode_utf8_all characters)) }
-    ensures none { result ≡ None → next ≡ None → (characters : List ℕ) → (rest : List ℕ)
-        → IsPlainString (text_at p.old i.old) characters rest → ⊥ }
+    ensures next { IfSome result (λ _. IfSome next (λ byte. (more : List ℕ)
+        × (text_at p.new i.new ≡ byte ∷ more))) }
+    ensures none { result ≡ None → (characters : List ℕ) → (rest : List ℕ)
+        → IsPlainString (text_at p.old i.old) characters rest
+        → IfSome next (λ byte. (more : List ℕ) × (rest ≡ byte ∷ more)) → ⊥ }
     ensures place { Counts p.old i.old p.new i.new }
     ensures unchanged { result ≡ None → (p.new ≡ p.old) × (i.new ≡ i.old) }
 {
@@ -204,11 +212,12 @@ pub fn plain_string_before<'a>(
     if !begins_with_quote(following.as_bytes()) {
         return None;
     }
-    if !goes_on(following.as_bytes(), next) {
+    let after = following.split_at(1).1;
+    if !goes_on(after.as_bytes(), next) {
         return None;
     }
     p.col = p.col.saturating_add(run.columns).saturating_add(1);
-    *i = following.split_at(1).1.chars();
+    *i = after.chars();
     p.next(i);
     Some(plain)
 }

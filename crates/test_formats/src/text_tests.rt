@@ -108,8 +108,11 @@ const BEFORE: &[(&str, u8, Option<&str>)] = &[
     ("a\"", b':', None),
 ];
 
-/// Whether this string is taken in place before this byte.
+/// Whether this string is taken in place before this byte, which is of ASCII.
 fn is_before(text: &str, next: u8, string: Option<&str>) -> bool {
+    if next == 0 || next >= 128 {
+        return false;
+    }
     let mut input = text.chars();
     let mut place = Place {
         cur: '"',

@@ -2,10 +2,6 @@
 //! written by `derive`; and the laws of each format, called of such types.
 #![tactic(auto)]
 
-#[cfg(test)]
-mod law_tests;
-#[cfg(test)]
-mod tests;
 mod widget;
 
 pub use widget::Widget;

@@ -6,8 +6,6 @@ mod comment;
 mod filter;
 mod menu;
 mod setting;
-#[cfg(test)]
-mod tests;
 
 pub use comment::Comment;
 pub use filter::Filter;

@@ -4,8 +4,6 @@
 
 mod plan;
 mod shelf;
-#[cfg(test)]
-mod tests;
 mod tree;
 
 pub use plan::Plan;

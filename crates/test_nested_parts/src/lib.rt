@@ -10,8 +10,6 @@ mod plan;
 mod quest;
 mod scene;
 mod story;
-#[cfg(test)]
-mod tests;
 
 pub use camp::{Camp, Route, Weather};
 pub use item::Item;

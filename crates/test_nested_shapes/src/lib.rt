@@ -5,8 +5,6 @@
 
 mod node;
 mod term;
-#[cfg(test)]
-mod tests;
 
 pub use node::{Node, Trail};
 pub use term::{Argument, Term};

@@ -66,9 +66,19 @@ pub(crate) fn check_default<'a>(
     if let Some(word) = field.attributes.skip {
         check_skip(field, word, missing)?;
     }
-    let Some(token) = field.attributes.default_path else {
-        return Ok(());
-    };
+    match field.attributes.default_path {
+        Some(token) => check_given(source, field, token, missing),
+        None => Ok(()),
+    }
+}
+
+/// An error where what is given as a default is none of the field's type.
+fn check_given<'a>(
+    source: &Source<'a>,
+    field: Field<'a>,
+    token: Token<'a>,
+    missing: Missing<'a>,
+) -> Result<(), Fault> {
     match missing {
         Missing::Whole(text) | Missing::Signed(text) => {
             if is_number(type_name(field.of), text) {

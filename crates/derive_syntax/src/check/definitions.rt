@@ -22,6 +22,17 @@ pub(crate) fn check_definition<'a>(
     source: &Source<'a>,
     definition: &Definition<'a>,
 ) -> Result<(), Fault> {
+    check_above(definition)?;
+    let case = definition.attributes.case;
+    match &definition.shape {
+        Shape::Fields(fields) => check_fields(alloc, source, definition, fields, case),
+        Shape::Parts(parts) => check_parts(source, definition, parts),
+        Shape::Variants(variants) => check_variants(alloc, source, definition, variants),
+    }
+}
+
+/// An error where what stands above a type cannot be there, or its type parameters cannot.
+fn check_above<'a>(definition: &Definition<'a>) -> Result<(), Fault> {
     check_distinct(&definition.parameters)?;
     check_attributes(definition.attributes, definition)?;
     check_transparent(definition)?;
@@ -31,12 +42,7 @@ pub(crate) fn check_definition<'a>(
     if definition.attributes.codec.is_some() {
         check_bounds(definition)?;
     }
-    let case = definition.attributes.case;
-    match &definition.shape {
-        Shape::Fields(fields) => check_fields(alloc, source, definition, fields, case),
-        Shape::Parts(parts) => check_parts(source, definition, parts),
-        Shape::Variants(variants) => check_variants(alloc, source, definition, variants),
-    }
+    Ok(())
 }
 
 /// An error where a type is called transparent that is not a newtype.
@@ -94,38 +100,79 @@ fn check_fields<'a>(
     fields: &[Field<'a>],
     case: Option<Case>,
 ) -> Result<(), Fault> {
-    let mut names = Vec::new(alloc);
     let mut encoded_names = Vec::new(alloc);
     for field in fields {
-        names.push(field.name)?;
-        check_attributes(field.attributes, definition)?;
-        check_default(source, definition, *field)?;
-        let aliases = field.attributes.aliases(alloc)?;
-        if field.attributes.skip.is_some() {
-            check_none(&aliases)?;
-            continue;
-        }
-        check_type(source, definition, field.of)?;
-        let name = EncodedName::of_field(alloc, *field, case)?;
-        check_name(&name, definition.attributes)?;
-        encoded_names.push(name)?;
-        add_aliases(alloc, definition, &aliases, &mut encoded_names)?;
+        check_field(alloc, source, definition, *field)?;
+        add_names(alloc, definition, *field, case, &mut encoded_names)?;
     }
-    check_distinct(&names)?;
+    check_distinct_fields(alloc, fields)?;
     check_encoded(&encoded_names)
+}
+
+/// An error where two fields have one name.
+fn check_distinct_fields<'a>(alloc: Global, fields: &[Field<'a>]) -> Result<(), Fault> {
+    let mut names = Vec::new(alloc);
+    for field in fields {
+        names.push(field.name)?;
+    }
+    check_distinct(&names)
+}
+
+/// An error where a field cannot be written, whatever its names are.
+fn check_field<'a>(
+    alloc: Global,
+    source: &Source<'a>,
+    definition: &Definition<'a>,
+    field: Field<'a>,
+) -> Result<(), Fault> {
+    check_attributes(field.attributes, definition)?;
+    check_default(source, definition, field)?;
+    if field.attributes.skip.is_some() {
+        return check_none(&field.attributes.aliases(alloc)?);
+    }
+    check_type(source, definition, field.of)
+}
+
+/// Adds the names of a field that is not skipped, or an error where one cannot be written.
+fn add_names<'a>(
+    alloc: Global,
+    definition: &Definition<'a>,
+    field: Field<'a>,
+    case: Option<Case>,
+    encoded_names: &mut Vec<EncodedName<'a>>,
+) -> Result<(), Fault> {
+    if field.attributes.skip.is_some() {
+        return Ok(());
+    }
+    let name = EncodedName::of_field(alloc, field, case)?;
+    add_name(definition, name, encoded_names)?;
+    add_aliases(alloc, definition, field, encoded_names)
+}
+
+/// Adds a name, or an error where it cannot be written.
+fn add_name<'a>(
+    definition: &Definition<'a>,
+    name: EncodedName<'a>,
+    encoded_names: &mut Vec<EncodedName<'a>>,
+) -> Result<(), Fault> {
+    check_name(&name, definition.attributes)?;
+    encoded_names.push(name)?;
+    Ok(())
 }
 
 /// Adds the aliases of a field to the names, or an error where one cannot be written.
 fn add_aliases<'a>(
     alloc: Global,
     definition: &Definition<'a>,
-    aliases: &[Token<'a>],
+    field: Field<'a>,
     encoded_names: &mut Vec<EncodedName<'a>>,
 ) -> Result<(), Fault> {
-    for alias in aliases {
-        let name = EncodedName::of_alias(alloc, *alias)?;
-        check_name(&name, definition.attributes)?;
-        encoded_names.push(name)?;
+    for alias in &field.attributes.aliases(alloc)? {
+        add_name(
+            definition,
+            EncodedName::of_alias(alloc, *alias)?,
+            encoded_names,
+        )?;
     }
     Ok(())
 }
@@ -175,18 +222,24 @@ fn check_variants<'a>(
     definition: &Definition<'a>,
     variants: &[Variant<'a>],
 ) -> Result<(), Fault> {
-    let mut names = Vec::new(alloc);
     let mut encoded_names = Vec::new(alloc);
     for variant in variants {
         check_attributes(variant.attributes, definition)?;
         let name = EncodedName::of_variant(alloc, variant, definition.attributes.case)?;
-        check_name(&name, definition.attributes)?;
-        names.push(variant.name)?;
-        encoded_names.push(name)?;
+        add_name(definition, name, &mut encoded_names)?;
         check_content(alloc, source, definition, &variant.content)?;
     }
-    check_distinct(&names)?;
+    check_distinct_variants(alloc, variants)?;
     check_encoded(&encoded_names)
+}
+
+/// An error where two variants have one name.
+fn check_distinct_variants<'a>(alloc: Global, variants: &[Variant<'a>]) -> Result<(), Fault> {
+    let mut names = Vec::new(alloc);
+    for variant in variants {
+        names.push(variant.name)?;
+    }
+    check_distinct(&names)
 }
 
 /// An error where what a variant holds cannot be written.

@@ -62,23 +62,33 @@ pub(crate) fn check_nested<'a>(
     }
     let cycle = source.cycle_of(alloc, definition)?;
     check_levels(definition, &cycle)?;
-    let Some(cycle) = cycle else {
-        return Ok(());
-    };
+    match &cycle {
+        Some(cycle) => check_cycle(alloc, source, definition, cycle),
+        None => Ok(()),
+    }
+}
+
+/// An error where one of types that contain each other, or one that contains itself, is not written.
+fn check_cycle<'a>(
+    alloc: Global,
+    source: &Source<'a>,
+    definition: &Definition<'a>,
+    cycle: &Cycle<'a>,
+) -> Result<(), Fault> {
     if let (Some(parameter), false) = (definition.parameters.first(), cycle.is_one()) {
         return Err(parameter.fault(GENERIC));
     }
     check_no_bounds(definition)?;
     check_formats(definition.attributes)?;
-    check_same(source, definition, &cycle)?;
+    check_same(source, definition, cycle)?;
     let attributes = definition.attributes;
     if attributes.json.is_used() || attributes.ron.is_used() {
         check_nested_json(definition)?;
     }
     match &definition.shape {
-        Shape::Fields(fields) => check_fields(alloc, source, &cycle, fields),
+        Shape::Fields(fields) => check_fields(alloc, source, cycle, fields),
         Shape::Parts(_parts) => Err(definition.name.fault(TUPLE)),
-        Shape::Variants(variants) => check_variants(alloc, source, &cycle, variants),
+        Shape::Variants(variants) => check_variants(alloc, source, cycle, variants),
     }
 }
 
@@ -115,19 +125,22 @@ fn check_same<'a>(
     definition: &Definition<'a>,
     cycle: &Cycle<'a>,
 ) -> Result<(), Fault> {
-    let here = definition.attributes;
     for other in &source.definitions {
-        let there = other.attributes;
-        let is_same = there.bin == here.bin && there.json == here.json && there.ron == here.ron;
-        if cycle.is_one() || !other.name.is_among(&cycle.names) {
-            continue;
+        if !cycle.is_one() && other.name.is_among(&cycle.names) {
+            check_other_of_cycle(definition.attributes, other)?;
         }
-        if !is_same {
-            return Err(other.name.fault(NO_SAME));
-        }
-        if there.cycle.is_none() {
-            return Err(other.name.fault(NO_CYCLE));
-        }
+    }
+    Ok(())
+}
+
+/// An error at the name of a type that has other formats than these, or no cycle.
+fn check_other_of_cycle<'a>(here: Attributes<'a>, other: &Definition<'a>) -> Result<(), Fault> {
+    let there = other.attributes;
+    if there.bin != here.bin || there.json != here.json || there.ron != here.ron {
+        return Err(other.name.fault(NO_SAME));
+    }
+    if there.cycle.is_none() {
+        return Err(other.name.fault(NO_CYCLE));
     }
     Ok(())
 }

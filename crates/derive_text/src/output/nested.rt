@@ -205,12 +205,12 @@ fn append_impls<'a>(
     let mut holes = nested_holes(sheet, target)?;
     put_laws(&mut holes, alloc, target, kind.is_enum)?;
     put_codec(&mut holes, alloc, target)?;
-    holes.put("SCHEMA", sheet.short(kind.schema)?.as_str());
+    holes.put("SCHEMA", sheet.short(kind.schema).as_str());
     holes.put("HELD", row.values.as_str());
     holes.put("MAKING", row.making.as_str());
-    holes.put("IN_KNOWN", cycle_line(alloc, target, "known", "")?.as_str());
+    holes.put_made("IN_KNOWN", cycle_line(alloc, target, "known", ""));
     holes.put("KNOWN", known.as_str());
-    sheet.write(SCHEMA, &holes)?;
+    sheet.write(SCHEMA, &holes);
     if target.attributes.bin.is_used() {
         append_bytes(sheet, target, kind, holes, write)?;
     }
@@ -225,28 +225,23 @@ fn append_bytes<'a>(
     mut holes: Holes,
     write: &String,
 ) -> Result<(), AllocError> {
-    sheet.import("ghost use Rattle.nano_schema.specs.UserTypes.{agreed};")?;
+    sheet.import("ghost use Rattle.nano_schema.specs.UserTypes.{agreed};");
     let alloc = sheet.alloc;
     let name = Case::Snake.of_variant(alloc, target.name.text)?;
     put_read(&mut holes, sheet, target)?;
     put_bounds(&mut holes, sheet, target, "bin")?;
-    holes.put("CALL", reading(sheet, target, kind)?.as_str());
-    let codec = format!(in alloc; "{name}_codec")?;
-    holes.put(
-        "IS_CODED",
-        given(alloc, target, codec.as_str(), "bin")?.as_str(),
-    );
+    holes.put_made("CALL", reading(sheet, target, kind));
+    let codec = sheet.made(format!(in alloc; "{name}_codec"));
+    holes.put_made("IS_CODED", given(alloc, target, codec.as_str(), "bin"));
     holes.put("BIN", codec.as_str());
-    holes.put("LEVELS", levels_of(alloc, target)?.as_str());
-    holes.put("IN_READ", reader_cycle(alloc, target, "bin")?.as_str());
-    holes.put(
-        "IN_WRITE",
-        cycle_line(alloc, target, "write", "_bin")?.as_str(),
-    );
+    holes.put_made("LEVELS", levels_of(alloc, target));
+    holes.put_made("IN_READ", reader_cycle(alloc, target, "bin"));
+    holes.put_made("IN_WRITE", cycle_line(alloc, target, "write", "_bin"));
     holes.put("WRITE", write.as_str());
-    sheet.write(BYTES, &holes)?;
-    sheet.write(if target.is_around() { AROUND } else { LEVELS }, &holes)?;
-    sheet.write(READER, &holes)
+    sheet.write(BYTES, &holes);
+    sheet.write(if target.is_around() { AROUND } else { LEVELS }, &holes);
+    sheet.write(READER, &holes);
+    Ok(())
 }
 
 /// The call that gives the levels that are read.
@@ -260,11 +255,11 @@ pub(crate) fn levels_of<'a>(alloc: Global, target: &Target<'a>) -> Result<String
 /// The call that reads a value: one level below, or of as many levels if it is none of its own.
 fn reading<'a>(sheet: &mut Sheet, target: &Target<'a>, kind: &Kind) -> Result<String, AllocError> {
     let alloc = sheet.alloc;
-    let open = format!(in alloc;
+    let open = sheet.made(format!(in alloc;
         "nano_bin_nested::{}::<nano_levels::Levels, {}, {}>(",
         kind.read, target.full, target.row
-    )?;
-    let open = sheet.short(open.as_str())?;
+    ));
+    let open = sheet.short(open.as_str());
     let mut arguments = Vec::new(alloc);
     let levels = if target.is_around() { "self" } else { "below" };
     for argument in [levels, "alloc", "offset", "bytes"] {

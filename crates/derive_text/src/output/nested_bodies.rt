@@ -30,7 +30,7 @@ pub(crate) fn variants_making<'a>(
     variants: &[Variant<'a>],
 ) -> Result<String, AllocError> {
     let alloc = sheet.alloc;
-    let either = sheet.short("nano_schema::Either::First")?;
+    let either = sheet.short("nano_schema::Either::First");
     let either = either.as_str().strip_suffix("::First").unwrap_or("Either");
     let mut text = String::new(alloc);
     let mut of = "values";
@@ -40,7 +40,7 @@ pub(crate) fn variants_making<'a>(
         } else {
             last_made(alloc, variant, of)?
         };
-        text.push_str(step.as_str())?;
+        sheet.add(&mut text, step.as_str());
         of = "later";
     }
     Ok(text)
@@ -157,10 +157,11 @@ pub(crate) fn known_fields<'a>(
 
 /// What says of each part that it is legal.
 fn known_lines(sheet: &mut Sheet, parts: &[Held<'_>]) -> Result<Vec<String>, AllocError> {
-    let mut lines = Vec::new(sheet.alloc);
+    let alloc = sheet.alloc;
+    let mut lines = Vec::new(alloc);
     for part in parts {
-        let line = format!(in sheet.alloc; "nano_schema::Value::known({})", part.name)?;
-        lines.push(sheet.short(line.as_str())?)?;
+        let line = sheet.made(format!(in alloc; "nano_schema::Value::known({})", part.name));
+        lines.push(sheet.short(line.as_str()))?;
     }
     Ok(lines)
 }
@@ -170,16 +171,17 @@ pub(crate) fn known_arms<'a>(
     sheet: &mut Sheet,
     variants: &[Variant<'a>],
 ) -> Result<String, AllocError> {
-    let mut text = String::from_str(sheet.alloc, "        match self {\n")?;
+    let alloc = sheet.alloc;
+    let mut text = sheet.made(String::from_str(alloc, "        match self {\n"));
     for variant in variants {
-        let parts = parts_of(sheet.alloc, &variant.content)?;
+        let parts = parts_of(alloc, &variant.content)?;
         let mut lines = known_lines(sheet, &parts)?;
         if lines.is_empty() {
-            lines.push(sheet.short("nano_schema::Value::known(&())")?)?;
+            lines.push(sheet.short("nano_schema::Value::known(&())"))?;
         }
-        text.push_str(arm(sheet.alloc, variant, &lines, ";")?.as_str())?;
+        sheet.add_made(&mut text, arm(alloc, variant, &lines, ";"));
     }
-    text.push_str("        }\n")?;
+    sheet.add(&mut text, "        }\n");
     Ok(text)
 }
 

@@ -150,19 +150,19 @@ pub(crate) fn append_json_choice<'a>(
 ) -> Result<(), AllocError> {
     let alloc = sheet.alloc;
     let mut holes = text_holes(sheet, target, JSON)?;
-    sheet.write(CODEC, &holes)?;
+    sheet.write(CODEC, &holes);
     let full = json_variants(sheet, target, variants, &row.leaves)?;
     let call = reading(sheet, JSON, target, (full.as_str(), "choice"))?;
     holes.put("CALL", call.as_str());
     let has_writer = append_contents(sheet, target, variants, &row.contents)?;
-    holes.put(
+    holes.put_made(
         "AROUND",
-        choice_cycle(alloc, target, (JSON.name, has_writer))?.as_str(),
+        choice_cycle(alloc, target, (JSON.name, has_writer)),
     );
-    holes.put("ARMS", arms(sheet, target, variants, JSON)?.as_str());
-    sheet.write(CHOICE, &holes)?;
+    holes.put_made("ARMS", arms(sheet, target, variants, JSON));
+    sheet.write(CHOICE, &holes);
     for template in reader_of(target) {
-        sheet.write(template, &holes)?;
+        sheet.write(template, &holes);
     }
     Ok(())
 }
@@ -186,25 +186,25 @@ pub(crate) fn append_json_record<'a>(
     target: &Target<'a>,
     fields: &str,
 ) -> Result<(), AllocError> {
-    import_outcomes(sheet)?;
+    import_outcomes(sheet);
     let alloc = sheet.alloc;
     let mut holes = text_holes(sheet, target, JSON)?;
     let call = reading(sheet, JSON, target, (target.row.as_str(), "record"))?;
     holes.put("CALL", call.as_str());
-    holes.put("CYCLE", writer_cycle(alloc, target, JSON.name)?.as_str());
+    holes.put_made("CYCLE", writer_cycle(alloc, target, JSON.name));
     holes.put("FIELDS", fields);
-    sheet.write(CODEC, &holes)?;
-    sheet.write(RECORD, &holes)?;
+    sheet.write(CODEC, &holes);
+    sheet.write(RECORD, &holes);
     for template in reader_of(target) {
-        sheet.write(template, &holes)?;
+        sheet.write(template, &holes);
     }
     Ok(())
 }
 
 /// Brings in what is said of calls that append.
-pub(crate) fn import_outcomes(sheet: &mut Sheet) -> Result<(), AllocError> {
-    sheet.import("ghost use Rattle.std.specs.Prelude.{OnOk};")?;
-    sheet.import("ghost use Rattle.std.specs.Prelude.{OnErr};")?;
-    sheet.import("ghost use Rattle.nano_text.specs.Outcomes.{Appends};")?;
-    sheet.import("ghost use Rattle.nano_text.specs.Outcomes.{AppendsPart};")
+pub(crate) fn import_outcomes(sheet: &mut Sheet) {
+    sheet.import("ghost use Rattle.std.specs.Prelude.{OnOk};");
+    sheet.import("ghost use Rattle.std.specs.Prelude.{OnErr};");
+    sheet.import("ghost use Rattle.nano_text.specs.Outcomes.{Appends};");
+    sheet.import("ghost use Rattle.nano_text.specs.Outcomes.{AppendsPart};");
 }

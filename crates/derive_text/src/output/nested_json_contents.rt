@@ -70,7 +70,7 @@ pub(crate) fn append_contents<'a>(
     variants: &[Variant<'a>],
     contents: &[Vec<Leaf>],
 ) -> Result<bool, AllocError> {
-    let is_there = append_writer(sheet, target, variants, JSON)?;
+    let is_there = append_writer(sheet, target, variants, JSON);
     for (variant, leaves) in variants.iter().zip(contents) {
         if let Content::Fields(fields) = &variant.content {
             append_content(sheet, target, variant, (fields, leaves))?;
@@ -90,18 +90,19 @@ pub(crate) fn append_writer<'a>(
     target: &Target<'a>,
     variants: &[Variant<'a>],
     format: TextNames,
-) -> Result<bool, AllocError> {
+) -> bool {
+    let alloc = sheet.alloc;
     for variant in variants {
         if let Content::Fields(_fields) = &variant.content {
-            let writer = writer_of(sheet.alloc, target, format)?;
-            let mut holes = target.holes(sheet.alloc);
+            let writer = sheet.made(writer_of(alloc, target, format));
+            let mut holes = target.holes(alloc);
             holes.put("TITLE", format.title);
             holes.put("WRITER", writer.as_str());
-            sheet.write(WRITER, &holes)?;
-            return Ok(true);
+            sheet.write(WRITER, &holes);
+            return true;
         }
     }
-    Ok(false)
+    false
 }
 
 /// Appends what writes a variant that has these fields, which stand so in their row.
@@ -112,47 +113,39 @@ fn append_content<'a>(
     (fields, leaves): (&[Field<'a>], &[Leaf]),
 ) -> Result<(), AllocError> {
     let alloc = sheet.alloc;
-    import_outcomes(sheet)?;
-    sheet.import("ghost use Rattle.nano_text.specs.Outcomes.{Unchanged};")?;
-    sheet.import("ghost use Rattle.nano_json_schema.specs.Variants.{content_text};")?;
-    sheet.import("ghost use Rattle.std.specs.Prelude.{◌≡◌};")?;
+    import_outcomes(sheet);
+    sheet.import("ghost use Rattle.nano_text.specs.Outcomes.{Unchanged};");
+    sheet.import("ghost use Rattle.nano_json_schema.specs.Variants.{content_text};");
+    sheet.import("ghost use Rattle.std.specs.Prelude.{◌≡◌};");
     let mut holes = value_holes(alloc, fields)?;
     put_variant(&mut holes, alloc, target, (variant, fields.len()))?;
     let of = Case::Snake.of_variant(alloc, target.name.text)?;
     let end = Case::Snake.of_variant(alloc, variant.name.text)?;
-    let content = format!(in alloc; "{of}_json_content_{end}")?;
+    let content = sheet.made(format!(in alloc; "{of}_json_content_{end}"));
     let lines = json_fields(sheet, target, fields, (leaves, "v"))?;
-    holes.put("TEXTS", specs_of(alloc, target.module, "Json")?.as_str());
+    holes.put_made("TEXTS", specs_of(alloc, target.module, "Json"));
     holes.put("FIELDS", lines.as_str());
     let root = Case::Snake.of_variant(alloc, target.root.text)?;
-    let codec = format!(in alloc; "{root}_json")?;
-    let written = given_term(alloc, target, codec.as_str(), JSON.name)?;
-    let laid = given_term(alloc, target, content.as_str(), JSON.name)?;
+    let codec = sheet.made(format!(in alloc; "{root}_json"));
+    let written = sheet.made(given_term(alloc, target, codec.as_str(), JSON.name));
+    let laid = sheet.made(given_term(alloc, target, content.as_str(), JSON.name));
     holes.put("IS_WRITTEN", written.as_str());
     holes.put("LAID", laid.as_str());
     holes.put("JSON", codec.as_str());
     holes.put("CONTENT", content.as_str());
     holes.put("NAME", variant.name.text);
-    holes.put("KEY", variant_name(alloc, variant, None)?.as_str());
-    let inner = format!(in alloc; "append_{end}_fields")?;
-    let middle = format!(in alloc; "append_{end}")?;
-    let outer = format!(in alloc; "write_{end}")?;
-    holes.put("WRITER", writer_of(alloc, target, JSON)?.as_str());
-    holes.put(
-        "INNER",
-        head(sheet, target, inner.as_str(), fields)?.as_str(),
-    );
-    holes.put(
-        "MIDDLE",
-        head(sheet, target, middle.as_str(), fields)?.as_str(),
-    );
-    holes.put(
-        "OUTER",
-        head(sheet, target, outer.as_str(), fields)?.as_str(),
-    );
+    holes.put_made("KEY", variant_name(alloc, variant, None));
+    let inner = sheet.made(format!(in alloc; "append_{end}_fields"));
+    let middle = sheet.made(format!(in alloc; "append_{end}"));
+    let outer = sheet.made(format!(in alloc; "write_{end}"));
+    holes.put_made("WRITER", writer_of(alloc, target, JSON));
+    holes.put_made("INNER", head(sheet, target, inner.as_str(), fields));
+    holes.put_made("MIDDLE", head(sheet, target, middle.as_str(), fields));
+    holes.put_made("OUTER", head(sheet, target, outer.as_str(), fields));
     holes.put("OF", end.as_str());
-    holes.put("CYCLE", writer_cycle(alloc, target, JSON.name)?.as_str());
-    sheet.write(CONTENT, &holes)
+    holes.put_made("CYCLE", writer_cycle(alloc, target, JSON.name));
+    sheet.write(CONTENT, &holes);
+    Ok(())
 }
 
 /// The holes that the values of fields stand in: as arguments, and as nested pairs.
@@ -181,17 +174,20 @@ fn head<'a>(
 ) -> Result<String, AllocError> {
     let alloc = sheet.alloc;
     let mut parameters = Vec::new(alloc);
-    parameters.push(format!(in alloc; "value: &{}", target.full)?)?;
+    let item = sheet.made(format!(in alloc; "value: &{}", target.full));
+    sheet.push(&mut parameters, item);
     for (i, field) in fields.iter().enumerate() {
-        let of = type_text(alloc, field.of)?;
-        parameters.push(format!(in alloc; "v{i}: &{of}")?)?;
+        let of = sheet.made(type_text(alloc, field.of));
+        let item = sheet.made(format!(in alloc; "v{i}: &{of}"));
+        sheet.push(&mut parameters, item);
     }
-    parameters.push(sheet.short("alloc: std::alloc::Global")?)?;
-    parameters.push(String::from_str(alloc, "d: usize")?)?;
-    parameters.push(sheet.short("s: &mut nano_json_schema::SerJsonState")?)?;
+    parameters.push(sheet.short("alloc: std::alloc::Global"))?;
+    let item = sheet.made(String::from_str(alloc, "d: usize"));
+    sheet.push(&mut parameters, item);
+    parameters.push(sheet.short("s: &mut nano_json_schema::SerJsonState"))?;
     let bounds = writer_bounds(sheet, target, JSON.name)?;
-    let open = format!(in alloc; "fn {name}{bounds}(")?;
-    let close = sheet.short(") -> Result<(), std::alloc::AllocError>")?;
+    let open = sheet.made(format!(in alloc; "fn {name}{bounds}("));
+    let close = sheet.short(") -> Result<(), std::alloc::AllocError>");
     let brackets = (open.as_str(), close.as_str());
     Ok(bracketed(alloc, brackets, &parameters, Items::Patterns, (4, 4))?.laid)
 }

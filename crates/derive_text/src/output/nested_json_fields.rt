@@ -16,16 +16,17 @@ pub(crate) fn json_fields<'a>(
     fields: &[Field<'a>],
     (leaves, before): (&[Leaf], &str),
 ) -> Result<String, AllocError> {
-    let mut text = String::new(sheet.alloc);
+    let alloc = sheet.alloc;
+    let mut text = String::new(alloc);
     for (i, (field, leaf)) in fields.iter().zip(leaves).enumerate() {
         let bound = match fields.get(i.saturating_add(1)) {
-            Some(next) => format!(in sheet.alloc; "let {}_is_first = ", next.name.text)?,
-            None => String::new(sheet.alloc),
+            Some(next) => format!(in alloc; "let {}_is_first = ", next.name.text)?,
+            None => String::new(alloc),
         };
         let value = if before == "v" {
-            format!(in sheet.alloc; "v{i}")?
+            format!(in alloc; "v{i}")?
         } else {
-            format!(in sheet.alloc; "{before}{}", field.name.text)?
+            format!(in alloc; "{before}{}", field.name.text)?
         };
         let first = first_of(sheet, field, i)?;
         let around = (bound.as_str(), value.as_str(), first.as_str());
@@ -34,7 +35,7 @@ pub(crate) fn json_fields<'a>(
         } else {
             other(sheet, field, leaf, around)?
         };
-        text.push_str(format!(in sheet.alloc; "        {step}\n")?.as_str())?;
+        sheet.add_made(&mut text, format!(in alloc; "        {step}\n"));
     }
     Ok(text)
 }
@@ -58,7 +59,7 @@ fn within<'a>(
         Some(_part) => "optional",
         None => "required",
     };
-    let open = format!(in alloc; "{bound}nano_json_nested::append_{kind}_within(")?;
+    let open = sheet.made(format!(in alloc; "{bound}nano_json_nested::append_{kind}_within("));
     let key = format!(in alloc; "\"{}\"", field_name(alloc, *field, None)?)?;
     let arguments = ["alloc", key.as_str(), value, first, "inner", "s"];
     call(sheet, open.as_str(), &arguments)
@@ -72,7 +73,7 @@ fn other<'a>(
     (bound, value, first): (&str, &str, &str),
 ) -> Result<String, AllocError> {
     let alloc = sheet.alloc;
-    let _refs = sheet.short("nano_json_schema::JsonRefs")?;
+    let _refs = sheet.short("nano_json_schema::JsonRefs");
     let kind = match optional_part(field.of) {
         Some(_part) => "Optional",
         None => "Required",
@@ -80,18 +81,21 @@ fn other<'a>(
     // A field with a default is written as one that must be there.
     let mut parts = String::new(alloc);
     for text in leaf.texts.get(..2).unwrap_or(&[]) {
-        parts.push_str(if parts.is_empty() { "" } else { ", " })?;
-        parts.push_str(text.as_str())?;
+        let between = if parts.is_empty() { "" } else { ", " };
+        sheet.add(&mut parts, between);
+        sheet.add(&mut parts, text.as_str());
     }
-    let open = format!(in alloc; "{bound}nano_schema::{kind}::<{parts}>::append_fields(")?;
-    let value = format!(in alloc; "&{value}")?;
+    let open = sheet.made(format!(in alloc;
+        "{bound}nano_schema::{kind}::<{parts}>::append_fields("
+    ));
+    let value = sheet.made(format!(in alloc; "&{value}"));
     let arguments = [value.as_str(), "alloc", first, "inner", "s"];
     call(sheet, open.as_str(), &arguments)
 }
 
 /// A call that passes an error on.
 fn call(sheet: &mut Sheet, open: &str, arguments: &[&str]) -> Result<String, AllocError> {
-    let open = sheet.short(open)?;
+    let open = sheet.short(open);
     let mut pieces = Vec::new(sheet.alloc);
     for argument in arguments {
         pieces.push(Piece::of(sheet.alloc, *argument)?)?;

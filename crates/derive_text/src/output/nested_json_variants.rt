@@ -12,7 +12,7 @@ use derive_impls::sheet::Sheet;
 use derive_impls::target::Target;
 use derive_impls::variants::bracketed;
 use derive_syntax::{Case, Content, Field, Variant, variant_name};
-use std::alloc::AllocError;
+use std::alloc::{AllocError, Global};
 
 // ---- the row
 
@@ -24,12 +24,13 @@ pub(crate) fn json_variants<'a>(
     variants: &[Variant<'a>],
     schemas: &[Leaf],
 ) -> Result<String, AllocError> {
+    let alloc = sheet.alloc;
     if !have_several(variants) {
         return target.row.clone();
     }
     let mut full = name_of(sheet, target.name.text, "JsonVariants")?;
-    full.push_str(arguments(sheet.alloc, target)?.as_str())?;
-    let mut leaves = Vec::new(sheet.alloc);
+    sheet.add_made(&mut full, arguments(alloc, target));
+    let mut leaves = Vec::new(alloc);
     for (variant, schema) in variants.iter().zip(schemas) {
         leaves.push(json_leaf(sheet, variant, schema)?)?;
     }
@@ -65,8 +66,8 @@ fn json_leaf<'a>(
     let mut texts = Vec::new(alloc);
     for (i, text) in schema.texts.iter().enumerate() {
         if i > 0 && has_several(&variant.content) {
-            let content = format!(in alloc; "nano_schema::Tuple<{text}>")?;
-            texts.push(sheet.short(content.as_str())?)?;
+            let content = sheet.made(format!(in alloc; "nano_schema::Tuple<{text}>"));
+            texts.push(sheet.short(content.as_str()))?;
         } else {
             texts.push(text.clone()?)?;
         }
@@ -94,7 +95,7 @@ pub(crate) fn arms<'a>(
             Content::Fields(fields) => fields_arm(sheet, target, variant, (fields, format))?,
             _ => parts_arm(sheet, target, variant, format)?,
         };
-        text.push_str(arm.as_str())?;
+        sheet.add(&mut text, arm.as_str());
     }
     Ok(text)
 }
@@ -109,18 +110,19 @@ fn fields_arm<'a>(
     let alloc = sheet.alloc;
     let mut bound = Vec::new(alloc);
     let end = Case::Snake.of_variant(alloc, variant.name.text)?;
-    let writer = writer_of(alloc, target, format)?;
-    let mut call = format!(in alloc; "{writer}::write_{end}(self, ")?;
+    let writer = sheet.made(writer_of(alloc, target, format));
+    let mut call = sheet.made(format!(in alloc; "{writer}::write_{end}(self, "));
     for (i, field) in fields.iter().enumerate() {
-        bound.push(format!(in alloc; "{}: v{i}", field.name.text)?)?;
-        call.push_str(format!(in alloc; "v{i}, ")?.as_str())?;
+        let item = sheet.made(format!(in alloc; "{}: v{i}", field.name.text));
+        sheet.push(&mut bound, item);
+        sheet.add_made(&mut call, format!(in alloc; "v{i}, "));
     }
-    call.push_str("alloc, d, s)")?;
-    let open = format!(in alloc; "Self::{} {{", variant.name.text)?;
+    sheet.add(&mut call, "alloc, d, s)");
+    let open = sheet.made(format!(in alloc; "Self::{} {{", variant.name.text));
     let brackets = (open.as_str(), "}");
     let pattern = bracketed(alloc, brackets, &bound, Items::Fields, (12, 12))?.laid;
     let mut lines = Vec::new(alloc);
-    lines.push(call)?;
+    sheet.push(&mut lines, call);
     arm_of(alloc, pattern.as_str(), &lines, "")
 }
 
@@ -137,10 +139,10 @@ fn parts_arm<'a>(
     for part in &parts {
         if parts.len() > 1 && !target.is_within(part.of) {
             let (name, end) = (part.name.as_str(), format.name);
-            let line = format!(in alloc;
+            let line = sheet.made(format!(in alloc;
                 "let {name} = &nano_{end}_schema::Part {{ of: {name} }};"
-            )?;
-            lines.push(sheet.short(line.as_str())?)?;
+            ));
+            lines.push(sheet.short(line.as_str()))?;
         }
     }
     lines.push(write_parts(sheet, target, variant, (&parts, format))?)?;
@@ -174,11 +176,11 @@ fn write_name<'a>(
     } else {
         ""
     };
-    let call = format!(in alloc;
+    let call = sheet.made(format!(in alloc;
         "nano_{}_schema::write_unit_variant({given}\"{key}\", s)",
         format.name
-    )?;
-    sheet.short(call.as_str())
+    ));
+    Ok(sheet.short(call.as_str()))
 }
 
 /// The call that writes a variant with one part.
@@ -195,11 +197,30 @@ fn write_part<'a>(
     } else {
         "other"
     };
-    let call = format!(in alloc;
+    let call = sheet.made(format!(in alloc;
         "nano_{}_nested::write_variant_{end}(alloc, \"{key}\", {}, d, s)",
         format.name, part.name
-    )?;
-    sheet.short(call.as_str())
+    ));
+    Ok(sheet.short(call.as_str()))
+}
+
+/// What the call is given that writes a variant of this key with several parts.
+fn several<'a>(alloc: Global, key: &str, parts: &[Held<'a>]) -> Result<Vec<Piece>, AllocError> {
+    let mut arguments = Vec::new(alloc);
+    add_piece(alloc, &mut arguments, "alloc")?;
+    add_piece(alloc, &mut arguments, key)?;
+    for part in parts {
+        add_piece(alloc, &mut arguments, part.name.as_str())?;
+    }
+    add_piece(alloc, &mut arguments, "d")?;
+    add_piece(alloc, &mut arguments, "s")?;
+    Ok(arguments)
+}
+
+/// Adds a text to pieces.
+fn add_piece(alloc: Global, pieces: &mut Vec<Piece>, text: &str) -> Result<(), AllocError> {
+    pieces.push(Piece::of(alloc, text)?)?;
+    Ok(())
 }
 
 /// The call that writes a variant with two parts or three.
@@ -211,17 +232,11 @@ fn write_several<'a>(
 ) -> Result<String, AllocError> {
     let alloc = sheet.alloc;
     let count = if parts.len() == 2 { "pair" } else { "triple" };
-    let open = format!(in alloc; "nano_{}_nested::write_{count}_within(", format.name)?;
-    let open = sheet.short(open.as_str())?;
-    let key = format!(in alloc; "\"{}\"", variant_name(alloc, variant, None)?)?;
-    let mut arguments = Vec::new(alloc);
-    arguments.push(Piece::of(alloc, "alloc")?)?;
-    arguments.push(Piece::of(alloc, key.as_str())?)?;
-    for part in parts {
-        arguments.push(Piece::of(alloc, part.name.as_str())?)?;
-    }
-    arguments.push(Piece::of(alloc, "d")?)?;
-    arguments.push(Piece::of(alloc, "s")?)?;
+    let open = sheet.made(format!(in alloc; "nano_{}_nested::write_{count}_within(", format.name));
+    let open = sheet.short(open.as_str());
+    let name = sheet.made(variant_name(alloc, variant, None));
+    let key = sheet.made(format!(in alloc; "\"{name}\""));
+    let arguments = several(alloc, key.as_str(), parts)?;
     let brackets = Brackets {
         open: open.as_str(),
         close: ")",

@@ -65,10 +65,7 @@ pub(crate) fn put_codec<'a>(
         )?;
         holes.put("CITED", cited.as_str());
         let codec = format!(in alloc; "{name}_codec")?;
-        holes.put(
-            "FIRST",
-            given_term(alloc, target, codec.as_str(), "bin")?.as_str(),
-        );
+        holes.put_made("FIRST", given_term(alloc, target, codec.as_str(), "bin"));
         return Ok(());
     };
     let (texts, end) = (specs_of(alloc, target.module, format.word)?, format.name);
@@ -78,10 +75,7 @@ pub(crate) fn put_codec<'a>(
     )?;
     holes.put("CITED", cited.as_str());
     let codec = format!(in alloc; "{name}_{end}")?;
-    holes.put(
-        "FIRST",
-        given_term(alloc, target, codec.as_str(), end)?.as_str(),
-    );
+    holes.put_made("FIRST", given_term(alloc, target, codec.as_str(), end));
     Ok(())
 }
 
@@ -93,9 +87,9 @@ pub(crate) fn nested_holes<'a>(
     let alloc = sheet.alloc;
     let name = Case::Snake.of_variant(alloc, target.name.text)?;
     let mut holes = target.holes(alloc);
-    holes.put("SPECS", specs_of(alloc, target.module, "")?.as_str());
-    holes.put("SEEN", format!(in alloc; "{name}_view")?.as_str());
-    holes.put("MEANS", format!(in alloc; "{name}_means")?.as_str());
+    holes.put_made("SPECS", specs_of(alloc, target.module, ""));
+    holes.put_made("SEEN", format!(in alloc; "{name}_view"));
+    holes.put_made("MEANS", format!(in alloc; "{name}_means"));
     put_shared(&mut holes, sheet, target)?;
     Ok(holes)
 }

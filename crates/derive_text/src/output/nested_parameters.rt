@@ -81,11 +81,12 @@ fn bounded<'a>(
     let alloc = sheet.alloc;
     let mut bound = String::new(alloc);
     for (begin, end, format) in bounds {
-        bound.push_str(if bound.is_empty() { ": " } else { " + " })?;
+        let between = if bound.is_empty() { ": " } else { " + " };
+        sheet.add(&mut bound, between);
         let word = word_of(*format);
-        let path = format!(in alloc; "nano_{format}_schema::{begin}{word}{end}")?;
+        let path = sheet.made(format!(in alloc; "nano_{format}_schema::{begin}{word}{end}"));
         if !target.parameters.is_empty() {
-            bound.push_str(sheet.short(path.as_str())?.as_str())?;
+            bound.push_str(sheet.short(path.as_str()).as_str())?;
         }
     }
     named(alloc, &target.parameters, bound.as_str())
@@ -99,12 +100,12 @@ pub(crate) fn put_shared<'a>(
 ) -> Result<(), AllocError> {
     let (alloc, first) = (sheet.alloc, first_name(target));
     let name = Case::Snake.of_variant(alloc, target.name.text)?;
-    let means = format!(in alloc; "{name}_means")?;
+    let means = sheet.made(format!(in alloc; "{name}_means"));
     let none = bounded(sheet, target, &[])?;
     holes.put("BY_NONE", none.as_str());
     let value = bounded(sheet, target, &[("", "Codec", first)])?;
     holes.put("BY_VALUE", value.as_str());
-    let meant = meant(alloc, target, means.as_str(), first)?;
+    let meant = sheet.made(meant(alloc, target, means.as_str(), first));
     holes.put("IS_MEANT", meant.as_str());
     Ok(())
 }
@@ -208,18 +209,23 @@ pub(crate) fn put_read<'a>(
 ) -> Result<(), AllocError> {
     let alloc = sheet.alloc;
     if target.parameters.is_empty() {
-        sheet.import("ghost use Rattle.std.specs.Prelude.{refl};")?;
+        sheet.import("ghost use Rattle.std.specs.Prelude.{refl};");
         holes.put("CITES_READ", "");
         holes.put("IS_READ", "refl");
         return Ok(());
     }
     let name = Case::Snake.of_variant(alloc, target.name.text)?;
-    let specs = specs_of(alloc, target.module, "")?;
-    let cited = format!(in alloc; "    ghost use Rattle.{specs}.{{{name}_is_read}};\n\n")?;
-    let law = format!(in alloc; "{name}_is_read")?;
-    let mut term = given(alloc, target, law.as_str(), "bin")?;
+    let specs = sheet.made(specs_of(alloc, target.module, ""));
+    let cited = sheet.made(format!(in alloc;
+        "    ghost use Rattle.{specs}.{{{name}_is_read}};\n\n"
+    ));
+    let law = sheet.made(format!(in alloc; "{name}_is_read"));
+    let mut term = sheet.made(given(alloc, target, law.as_str(), "bin"));
     for parameter in &target.parameters {
-        term.push_str(format!(in alloc; " {}.is_decodable", parameter.text)?.as_str())?;
+        sheet.add_made(
+            &mut term,
+            format!(in alloc; " {}.is_decodable", parameter.text),
+        );
     }
     holes.put("CITES_READ", cited.as_str());
     holes.put("IS_READ", term.as_str());
@@ -235,24 +241,24 @@ pub(crate) fn put_agreement<'a>(
 ) -> Result<(), AllocError> {
     let (alloc, first) = (sheet.alloc, first_name(target));
     if target.parameters.is_empty() || first == format {
-        sheet.import("ghost use Rattle.nano_schema.specs.UserTypes.{agreed};")?;
+        sheet.import("ghost use Rattle.nano_schema.specs.UserTypes.{agreed};");
         holes.put("AND_LAW", "");
         holes.put("AGREED", "agreed");
         return Ok(());
     }
-    sheet.import("ghost use Rattle.nano_schema_levels.proofs.LegalLevelsLaws.{between};")?;
+    sheet.import("ghost use Rattle.nano_schema_levels.proofs.LegalLevelsLaws.{between};");
     let name = Case::Snake.of_variant(alloc, target.name.text)?;
-    let law = format!(in alloc; "{name}_{format}_agrees")?;
-    let own = given(alloc, target, law.as_str(), format)?;
-    let mut term = given(alloc, target, own.as_str(), first)?;
+    let law = sheet.made(format!(in alloc; "{name}_{format}_agrees"));
+    let own = sheet.made(given(alloc, target, law.as_str(), format));
+    let mut term = sheet.made(given(alloc, target, own.as_str(), first));
     for parameter in &target.parameters {
         let (of, here, there) = (parameter.text, word_of(format), word_of(first));
-        let same = format!(in alloc;
+        let same = sheet.made(format!(in alloc;
             " (between {of}.{there}Codec.agrees {of}.{here}Codec.agrees)"
-        )?;
-        term.push_str(same.as_str())?;
+        ));
+        sheet.add(&mut term, same.as_str());
     }
-    holes.put("AND_LAW", format!(in alloc; ", {law}")?.as_str());
+    holes.put_made("AND_LAW", format!(in alloc; ", {law}"));
     holes.put("AGREED", term.as_str());
     Ok(())
 }

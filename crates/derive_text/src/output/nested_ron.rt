@@ -22,14 +22,14 @@ pub(crate) fn append_ron_choice<'a>(
     let mut holes = text_holes(sheet, target, RON)?;
     let call = reading(sheet, RON, target, (target.row.as_str(), "choice"))?;
     holes.put("CALL", call.as_str());
-    sheet.write(in_ron(alloc, CODEC)?.as_str(), &holes)?;
+    sheet.write(in_ron(alloc, CODEC)?.as_str(), &holes);
     let has_writer = append_contents(sheet, target, variants)?;
-    holes.put(
+    holes.put_made(
         "AROUND",
-        choice_cycle(alloc, target, (RON.name, has_writer))?.as_str(),
+        choice_cycle(alloc, target, (RON.name, has_writer)),
     );
-    holes.put("ARMS", arms(sheet, target, variants, RON)?.as_str());
-    sheet.write(in_ron(alloc, CHOICE)?.as_str(), &holes)?;
+    holes.put_made("ARMS", arms(sheet, target, variants, RON));
+    sheet.write(in_ron(alloc, CHOICE)?.as_str(), &holes);
     append_reader(sheet, target, &holes)
 }
 
@@ -39,8 +39,9 @@ fn append_reader<'a>(
     target: &Target<'a>,
     holes: &Holes,
 ) -> Result<(), AllocError> {
+    let alloc = sheet.alloc;
     for template in reader_of(target) {
-        sheet.write(in_ron(sheet.alloc, template)?.as_str(), holes)?;
+        sheet.write(in_ron(alloc, template)?.as_str(), holes);
     }
     Ok(())
 }
@@ -51,15 +52,15 @@ pub(crate) fn append_ron_record<'a>(
     target: &Target<'a>,
     fields: &[Field<'a>],
 ) -> Result<(), AllocError> {
-    import_outcomes(sheet)?;
+    import_outcomes(sheet);
     let alloc = sheet.alloc;
     let mut holes = text_holes(sheet, target, RON)?;
     let call = reading(sheet, RON, target, (target.row.as_str(), "record"))?;
     holes.put("CALL", call.as_str());
-    holes.put("CYCLE", writer_cycle(alloc, target, RON.name)?.as_str());
+    holes.put_made("CYCLE", writer_cycle(alloc, target, RON.name));
     let steps = field_steps(sheet, target, fields, true)?;
     holes.put("FIELDS", steps.as_str());
-    sheet.write(in_ron(alloc, CODEC)?.as_str(), &holes)?;
-    sheet.write(in_ron(alloc, RECORD)?.as_str(), &holes)?;
+    sheet.write(in_ron(alloc, CODEC)?.as_str(), &holes);
+    sheet.write(in_ron(alloc, RECORD)?.as_str(), &holes);
     append_reader(sheet, target, &holes)
 }

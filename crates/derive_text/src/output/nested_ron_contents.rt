@@ -56,7 +56,7 @@ pub(crate) fn append_contents<'a>(
     target: &Target<'a>,
     variants: &[Variant<'a>],
 ) -> Result<bool, AllocError> {
-    let is_there = append_writer(sheet, target, variants, RON)?;
+    let is_there = append_writer(sheet, target, variants, RON);
     for variant in variants {
         if let Content::Fields(fields) = &variant.content {
             append_content(sheet, target, variant, fields)?;
@@ -72,9 +72,9 @@ fn append_content<'a>(
     variant: &Variant<'a>,
     fields: &[Field<'a>],
 ) -> Result<(), AllocError> {
-    import_outcomes(sheet)?;
-    sheet.import("ghost use Rattle.nano_text.specs.Outcomes.{Unchanged};")?;
-    sheet.import("ghost use Rattle.std.specs.Prelude.{◌≡◌};")?;
+    import_outcomes(sheet);
+    sheet.import("ghost use Rattle.nano_text.specs.Outcomes.{Unchanged};");
+    sheet.import("ghost use Rattle.std.specs.Prelude.{◌≡◌};");
     let alloc = sheet.alloc;
     let name = Case::Snake.of_variant(alloc, target.name.text)?;
     let end = Case::Snake.of_variant(alloc, variant.name.text)?;
@@ -82,23 +82,21 @@ fn append_content<'a>(
     put_arguments(&mut holes, alloc, fields)?;
     put_variant(&mut holes, alloc, target, (variant, fields.len()))?;
     let steps = steps_of(sheet, target, variant, fields)?;
-    let texts = specs_of(alloc, target.module, RON.word)?;
+    let texts = sheet.made(specs_of(alloc, target.module, RON.word));
     holes.put("TEXTS", texts.as_str());
-    let own = format!(in alloc; "{name}_ron_of_{end}")?;
+    let own = sheet.made(format!(in alloc; "{name}_ron_of_{end}"));
     let bounds = writer_bounds(sheet, target, RON.name)?;
     holes.put("BY_SER", bounds.as_str());
-    holes.put(
-        "IS_CODED",
-        given(alloc, target, own.as_str(), RON.name)?.as_str(),
-    );
+    holes.put_made("IS_CODED", given(alloc, target, own.as_str(), RON.name));
     holes.put("OWN", own.as_str());
     holes.put("TYPE", target.full.as_str());
     holes.put("CASE", variant.name.text);
-    holes.put("CYCLE", writer_cycle(alloc, target, RON.name)?.as_str());
-    holes.put("WRITER", writer_of(alloc, target, RON)?.as_str());
+    holes.put_made("CYCLE", writer_cycle(alloc, target, RON.name));
+    holes.put_made("WRITER", writer_of(alloc, target, RON));
     holes.put("END", end.as_str());
     holes.put("STEPS", steps.as_str());
-    sheet.write(CONTENT, &holes)
+    sheet.write(CONTENT, &holes);
+    Ok(())
 }
 
 /// Adds the values of fields as arguments, as what is passed, and as a clause says them.
@@ -131,8 +129,10 @@ fn steps_of<'a>(
 ) -> Result<String, AllocError> {
     let alloc = sheet.alloc;
     let called = variant_name(alloc, variant, None)?;
-    let call = format!(in alloc; "nano_ron_schema::write_unit_variant(\"{called}\", s)")?;
-    let call = sheet.short(call.as_str())?;
+    let call = sheet.made(format!(in alloc;
+        "nano_ron_schema::write_unit_variant(\"{called}\", s)"
+    ));
+    let call = sheet.short(call.as_str());
     let steps = field_steps(sheet, target, fields, false)?;
     format!(in alloc;
         "        {call}?;

@@ -26,7 +26,7 @@ pub(crate) fn field_steps<'a>(
         } else {
             ""
         };
-        let open = format!(in alloc; "nano_ron_nested::append_{kind}{end}(")?;
+        let open = sheet.made(format!(in alloc; "nano_ron_nested::append_{kind}{end}("));
         let key = format!(in alloc; "\"{}\"", field_name(alloc, *field, None)?)?;
         let value = if of_value {
             format!(in alloc; "&value.{}", field.name.text)?
@@ -41,7 +41,7 @@ pub(crate) fn field_steps<'a>(
 
 /// A call on lines of its own.
 fn step(sheet: &mut Sheet, open: &str, arguments: &[&str]) -> Result<String, AllocError> {
-    let open = sheet.short(open)?;
+    let open = sheet.short(open);
     let mut pieces = Vec::new(sheet.alloc);
     for argument in arguments {
         pieces.push(Piece::of(sheet.alloc, *argument)?)?;

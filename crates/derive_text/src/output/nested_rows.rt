@@ -6,7 +6,7 @@ use crate::output::nested_parameters::arguments_in;
 use derive_impls::chains::append_owned_chains;
 use derive_impls::defaults::append_default;
 use derive_impls::fields::field_texts;
-use derive_impls::labels::{append_labels, name_of};
+use derive_impls::labels::{append_labels, name_of, variant_names};
 use derive_impls::layout::Items;
 use derive_impls::names::in_type_name;
 use derive_impls::records::laid;
@@ -15,7 +15,7 @@ use derive_impls::sheet::Sheet;
 use derive_impls::target::Target;
 use derive_impls::tuples::part_types;
 use derive_impls::types::{optional_part, type_text};
-use derive_syntax::{Content, Field, Type, Variant, field_name, variant_name};
+use derive_syntax::{Content, Field, Type, Variant, field_name};
 use std::alloc::{AllocError, Global};
 
 /// What a type that contains itself is made of.
@@ -70,20 +70,22 @@ fn labelled<'a>(
     (owner, fields): (&str, &[Field<'a>]),
     labels: Vec<String>,
 ) -> Result<Vec<Leaf>, AllocError> {
-    let mut leaves = Vec::new(sheet.alloc);
+    let alloc = sheet.alloc;
+    let mut leaves = Vec::new(alloc);
     for (field, label) in fields.iter().zip(labels) {
         let (kind, part) = match (field.attributes.default, optional_part(field.of)) {
             (Some(_word), _) => ("nano_schema::Defaulted<", field.of),
             (None, Some(part)) => ("nano_schema::Optional<", part),
             (None, None) => ("nano_schema::Required<", field.of),
         };
-        let mut texts = Vec::new(sheet.alloc);
-        texts.push(label)?;
-        texts.push(type_text(sheet.alloc, part)?)?;
+        let mut texts = Vec::new(alloc);
+        sheet.push(&mut texts, label);
+        let item = sheet.made(type_text(alloc, part));
+        sheet.push(&mut texts, item);
         if field.attributes.default.is_some() {
             texts.push(append_default(sheet, target, owner, *field)?)?;
         }
-        leaves.push(leaf(sheet, target, (kind, field.of), texts)?)?;
+        leaves.push(leaf(sheet, target, (kind, field.of), texts))?;
     }
     Ok(leaves)
 }
@@ -95,19 +97,20 @@ fn leaf<'a>(
     target: &Target<'a>,
     (kind, of): (&str, Type<'a>),
     texts: Vec<String>,
-) -> Result<Leaf, AllocError> {
+) -> Leaf {
+    let alloc = sheet.alloc;
     let around = if target.is_within(of) {
         "nano_levels::Within<"
     } else {
         "nano_levels::Other<"
     };
-    let open = format!(in sheet.alloc; "{around}{kind}")?;
-    Ok(Leaf {
-        open: sheet.short(open.as_str())?,
+    let open = sheet.made(format!(in alloc; "{around}{kind}"));
+    Leaf {
+        open: sheet.short(open.as_str()),
         texts,
         close: ">>",
-        around: Vec::new(sheet.alloc),
-    })
+        around: Vec::new(alloc),
+    }
 }
 
 /// Parts without names as they stand in a row of a type.
@@ -116,11 +119,13 @@ fn part_leaves<'a>(
     target: &Target<'a>,
     parts: &[Type<'a>],
 ) -> Result<Vec<Leaf>, AllocError> {
-    let mut leaves = Vec::new(sheet.alloc);
+    let alloc = sheet.alloc;
+    let mut leaves = Vec::new(alloc);
     for part in parts {
-        let mut texts = Vec::new(sheet.alloc);
-        texts.push(type_text(sheet.alloc, *part)?)?;
-        leaves.push(leaf(sheet, target, ("nano_schema::Newtype<", *part), texts)?)?;
+        let mut texts = Vec::new(alloc);
+        let item = sheet.made(type_text(alloc, *part));
+        sheet.push(&mut texts, item);
+        leaves.push(leaf(sheet, target, ("nano_schema::Newtype<", *part), texts))?;
     }
     Ok(leaves)
 }
@@ -131,17 +136,14 @@ pub(crate) fn append_choice_row<'a>(
     target: &Target<'a>,
     variants: &[Variant<'a>],
 ) -> Result<NestedRow, AllocError> {
-    let mut names = Vec::new(sheet.alloc);
-    for variant in variants {
-        names.push(variant_name(sheet.alloc, variant, None)?)?;
-    }
+    let names = variant_names(sheet, variants, None);
     let labels = append_labels(sheet, target.name.text, &names)?;
     let mut schemas = Vec::new(sheet.alloc);
     let mut contents = Vec::new(sheet.alloc);
     for (variant, label) in variants.iter().zip(labels) {
         let leaves = content_leaves(sheet, target, variant)?;
         schemas.push(variant_leaf(sheet, target, variant, (label, &leaves))?)?;
-        contents.push(leaves)?;
+        sheet.push(&mut contents, leaves);
     }
     let held = held_values(sheet.alloc, variants)?;
     append_owned_chains(sheet, target, variants, (&schemas, &held))?;
@@ -159,11 +161,12 @@ fn content_leaves<'a>(
     target: &Target<'a>,
     variant: &Variant<'a>,
 ) -> Result<Vec<Leaf>, AllocError> {
+    let alloc = sheet.alloc;
     match &variant.content {
-        Content::Nothing => Ok(Vec::new(sheet.alloc)),
+        Content::Nothing => Ok(Vec::new(alloc)),
         Content::Parts(parts) => part_leaves(sheet, target, parts),
         Content::Fields(fields) => {
-            let owner = owner_of(sheet.alloc, target, variant)?;
+            let owner = sheet.made(owner_of(alloc, target, variant));
             field_leaves(sheet, target, owner.as_str(), fields)
         }
     }
@@ -188,10 +191,10 @@ fn variant_leaf<'a>(
 ) -> Result<Leaf, AllocError> {
     let content = variant_content(sheet, target, variant, leaves)?;
     let mut texts = Vec::new(sheet.alloc);
-    texts.push(label)?;
-    texts.push(content)?;
+    sheet.push(&mut texts, label);
+    sheet.push(&mut texts, content);
     Ok(Leaf {
-        open: sheet.short("nano_schema::Variant<")?,
+        open: sheet.short("nano_schema::Variant<"),
         texts,
         close: ">",
         around: Vec::new(sheet.alloc),
@@ -207,22 +210,22 @@ fn variant_content<'a>(
 ) -> Result<String, AllocError> {
     let alloc = sheet.alloc;
     let is_struct = match &variant.content {
-        Content::Nothing => return sheet.short("nano_levels::Other<nano_schema::Unit>"),
+        Content::Nothing => return Ok(sheet.short("nano_levels::Other<nano_schema::Unit>")),
         Content::Parts(_parts) => false,
         Content::Fields(_fields) => true,
     };
     if let ([leaf], false) = (leaves, is_struct) {
         return Ok(leaf.piece(alloc, 0, 0)?.flat);
     }
-    let owner = owner_of(alloc, target, variant)?;
+    let owner = sheet.made(owner_of(alloc, target, variant));
     let mut row = name_of(sheet, owner.as_str(), "Parts")?;
-    row.push_str(arguments_in(alloc, target, &variant.content)?.as_str())?;
+    sheet.add_made(&mut row, arguments_in(alloc, target, &variant.content));
     append_row(sheet, row.as_str(), leaves)?;
     if !is_struct {
         return Ok(row);
     }
-    let content = format!(in alloc; "nano_schema::Struct<{row}>")?;
-    sheet.short(content.as_str())
+    let content = sheet.made(format!(in alloc; "nano_schema::Struct<{row}>"));
+    Ok(sheet.short(content.as_str()))
 }
 
 /// The types of what the variants hold.

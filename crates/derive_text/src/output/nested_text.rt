@@ -83,27 +83,24 @@ pub(crate) fn text_holes<'a>(
     } = format;
     let name = Case::Snake.of_variant(alloc, target.name.text)?;
     let mut holes = nested_holes(sheet, target)?;
-    let codec = format!(in alloc; "{name}_{end}")?;
+    let codec = sheet.made(format!(in alloc; "{name}_{end}"));
     put_agreement(&mut holes, sheet, target, end)?;
     put_bounds(&mut holes, sheet, target, end)?;
-    let at = format!(in alloc; "{name}_{end}_at")?;
-    let means = format!(in alloc; "{name}_means")?;
-    holes.put(
-        "IS_CODED",
-        given(alloc, target, codec.as_str(), end)?.as_str(),
-    );
-    let written = given_term(alloc, target, codec.as_str(), end)?;
+    let at = sheet.made(format!(in alloc; "{name}_{end}_at"));
+    let means = sheet.made(format!(in alloc; "{name}_means"));
+    holes.put_made("IS_CODED", given(alloc, target, codec.as_str(), end));
+    let written = sheet.made(given_term(alloc, target, codec.as_str(), end));
     holes.put("IS_WRITTEN", written.as_str());
-    holes.put("CODES", given(alloc, target, at.as_str(), end)?.as_str());
-    holes.put("SAYS", meant(alloc, target, means.as_str(), end)?.as_str());
-    holes.put("RULES", laws_of(alloc, target, word)?.as_str());
-    holes.put("TEXTS", specs_of(alloc, target.module, word)?.as_str());
+    holes.put_made("CODES", given(alloc, target, at.as_str(), end));
+    holes.put_made("SAYS", meant(alloc, target, means.as_str(), end));
+    holes.put_made("RULES", laws_of(alloc, target, word));
+    holes.put_made("TEXTS", specs_of(alloc, target.module, word));
     holes.put("OWN", codec.as_str());
-    holes.put("WRITER", writer_of(alloc, target, format)?.as_str());
+    holes.put_made("WRITER", writer_of(alloc, target, format));
     holes.put("AT", at.as_str());
-    holes.put("IN_READ", reader_cycle(alloc, target, end)?.as_str());
+    holes.put_made("IN_READ", reader_cycle(alloc, target, end));
     holes.put("LIMIT", target.counted.level_limit());
-    holes.put("DEEP", too_deep(sheet, target, end)?.as_str());
+    holes.put_made("DEEP", too_deep(sheet, target, end));
     Ok(holes)
 }
 
@@ -126,7 +123,7 @@ fn too_deep<'a>(sheet: &mut Sheet, target: &Target<'a>, end: &str) -> Result<Str
         )?,
         None => format!(in alloc; "nano_{end}_nested::too_deep(alloc, state)")?,
     };
-    sheet.short(call.as_str())
+    Ok(sheet.short(call.as_str()))
 }
 
 /// The call that reads what a value is seen as by this row, of structs or of enums: one level below,
@@ -138,9 +135,9 @@ pub(crate) fn reading<'a>(
     (row, of): (&str, &str),
 ) -> Result<String, AllocError> {
     let (alloc, end) = (sheet.alloc, format.name);
-    let read = format!(in alloc; "nano_{end}_nested::read_{of}_{end}_within")?;
-    let open = format!(in alloc; "{read}::<nano_levels::Levels, {row}>(")?;
-    let open = sheet.short(open.as_str())?;
+    let read = sheet.made(format!(in alloc; "nano_{end}_nested::read_{of}_{end}_within"));
+    let open = sheet.made(format!(in alloc; "{read}::<nano_levels::Levels, {row}>("));
+    let open = sheet.short(open.as_str());
     let mut arguments = Vec::new(alloc);
     let (levels, left) = if target.is_around() {
         ("self", "left")

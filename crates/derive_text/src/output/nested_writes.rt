@@ -33,7 +33,7 @@ pub(crate) fn write_fields<'a>(
         lines.push(step(sheet, call.as_str(), i.saturating_add(1) == parts.len())?)?;
     }
     let start = if lines.len() > 1 { START } else { "" };
-    let body = indented(alloc, &lines, "        ", "")?;
+    let body = sheet.made(indented(alloc, &lines, "        ", ""));
     format!(in alloc; "{start}{body}")
 }
 
@@ -48,7 +48,7 @@ fn later_part(alloc: Global, name: &str, is_within: bool) -> Result<String, Allo
 
 /// A call that is the last one, or passes an error on.
 fn step(sheet: &mut Sheet, call: &str, is_last: bool) -> Result<String, AllocError> {
-    let mut line = sheet.short(call)?;
+    let mut line = sheet.short(call);
     line.push_str(if is_last { "" } else { "?;" })?;
     Ok(line)
 }
@@ -59,14 +59,15 @@ pub(crate) fn write_arms<'a>(
     target: &Target<'a>,
     variants: &[Variant<'a>],
 ) -> Result<String, AllocError> {
-    let mut arms = String::new(sheet.alloc);
+    let alloc = sheet.alloc;
+    let mut arms = String::new(alloc);
     let mut start = "";
     for (tag, variant) in variants.iter().enumerate() {
         let lines = write_lines(sheet, target, tag, &variant.content)?;
         start = if lines.len() > 1 { START } else { start };
-        arms.push_str(arm(sheet.alloc, variant, &lines, "")?.as_str())?;
+        sheet.add_made(&mut arms, arm(alloc, variant, &lines, ""));
     }
-    format!(in sheet.alloc; "{start}        match self {{\n{arms}        }}\n")
+    format!(in alloc; "{start}        match self {{\n{arms}        }}\n")
 }
 
 /// What writes a tag, and what the variant holds.
@@ -80,7 +81,9 @@ fn write_lines<'a>(
     let parts = parts_of(alloc, content)?;
     let mut lines = Vec::new(alloc);
     if parts.is_empty() {
-        let call = format!(in alloc; "nano_bin_nested::append_variant(alloc, {tag}, &(), output)")?;
+        let call = sheet.made(format!(in alloc;
+            "nano_bin_nested::append_variant(alloc, {tag}, &(), output)"
+        ));
         lines.push(step(sheet, call.as_str(), true)?)?;
     }
     for (i, part) in parts.iter().enumerate() {

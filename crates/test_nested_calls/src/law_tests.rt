@@ -1,13 +1,13 @@
 //! The laws of each format, of types that contain themselves: they hold of these as of any type,
 //! with no condition of their own.
 
-use crate::Widget;
+use crate::checks::holds;
 use nano_bin::BothBin;
 use nano_json::{BothJson, DeJsonErr};
 use nano_ron::{BothRon, DeRonErr};
 use std::alloc::Global;
-use std::process::Abort;
 use test_nested::Statement;
+use test_nested_defaults::Widget;
 use test_nested_derived::{Expression, Tree};
 use test_nested_derived_ron::{Menu, Setting};
 
@@ -85,11 +85,6 @@ fn laws_hold<T: BothBin + BothJson + BothRon>(alloc: Global, text: &str) -> bool
     laws_of_json(&x, &y);
     laws_of_ron(&x, &y);
     bytes_come_back(alloc, &x) && ron_comes_back(alloc, &x).is_ok()
-}
-
-/// What is said of a call holds.
-fn holds(rt: &impl Abort, is_so: bool, call: &str) {
-    assert!(rt; is_so, "at {call}");
 }
 
 #[test]

@@ -1,11 +1,11 @@
 //! Types that contain each other in RON.
 
-use crate::checks::holds;
-use crate::json_checks::nested;
-use crate::{Branch, Statement};
+use crate::checks::{Deep, holds};
+use crate::ron_checks::{are_values, ends_after_128, is_rejected};
 use nano_bin::{DeBin, SerBin};
-use nano_ron_nested::{BothRon, DeRon, SerRon};
+use nano_ron::{DeRon, SerRon};
 use std::alloc::Global;
+use test_nested::{Branch, Statement};
 
 const STATEMENTS: &[&str] = &[
     r#"Assign("a", -2)"#,
@@ -52,56 +52,23 @@ const CHOICE: &[u8] = &[
     2, 0, 1, 0, 0, 0, 0, 0, 0, 0, 0, 0, 1, 0, 0, 0, 0, 0, 0, 0, 0, 0, 0, 7, 0, 0, 0,
 ];
 
-/// All of the text is a value, which is written as the same text.
-fn is_read_back<T: BothRon>(alloc: Global, text: &str) -> bool {
-    let Ok(value) = T::deserialize_ron_whole(alloc, text) else {
-        return false;
-    };
-    match value.serialize_ron(alloc) {
-        Ok(written) => written.as_str() == text,
-        Err(_error) => false,
-    }
-}
+const DEEP_BLOCK: Deep = Deep {
+    opening: "Block([",
+    innermost: "Block([])",
+    closing: "])",
+};
 
-/// No value is there, which is reported in this column with these words.
-fn is_rejected<T: DeRon>(alloc: Global, text: &str, column: usize, words: &str) -> bool {
-    match T::deserialize_ron(alloc, text) {
-        Ok(_value) => false,
-        Err(error) => error.line == 0 && error.col == column && error.msg.as_str() == words,
-    }
-}
+const DEEP_CHOICE: Deep = Deep {
+    opening: "If((then:",
+    innermost: "Block([])",
+    closing: "))",
+};
 
-/// All of the text is a value, and so is what is written of it, which is the same value.
-fn is_read<T: BothRon + PartialEq>(alloc: Global, text: &str) -> bool {
-    let Ok(value) = T::deserialize_ron_whole(alloc, text) else {
-        return false;
-    };
-    let Ok(written) = value.serialize_ron(alloc) else {
-        return false;
-    };
-    match T::deserialize_ron_whole(alloc, written.as_str()) {
-        Ok(read) => read == value,
-        Err(_error) => false,
-    }
-}
-
-/// 128 levels are a value, and 129 are too deep, which is reported in this column.
-fn ends_at_128<T: BothRon + PartialEq>(
-    alloc: Global,
-    opening: &str,
-    innermost: &str,
-    closing: &str,
-    column: usize,
-) -> bool {
-    let Ok(most) = nested(alloc, 128, opening, innermost, closing) else {
-        return false;
-    };
-    let Ok(more) = nested(alloc, 129, opening, innermost, closing) else {
-        return false;
-    };
-    let words = "Value out of range levels>128 ";
-    is_read::<T>(alloc, most.as_str()) && is_rejected::<T>(alloc, more.as_str(), column, words)
-}
+const DEEP_BRANCH: Deep = Deep {
+    opening: "(then:If(",
+    innermost: "(then:Block([]))",
+    closing: "))",
+};
 
 /// The bytes are a value that is written as this text, and the text one that is written as them.
 fn is_written_as(alloc: Global, bytes: &[u8], text: &str) -> bool {
@@ -123,12 +90,12 @@ fn is_written_as(alloc: Global, bytes: &[u8], text: &str) -> bool {
 #[test]
 fn statements_and_branches_are_read_and_written_back(rt: HostRuntime) {
     let alloc = rt.alloc();
-    for text in STATEMENTS {
-        holds(&rt, is_read_back::<Statement>(alloc, text), "a statement");
-    }
-    for text in BRANCHES {
-        holds(&rt, is_read_back::<Branch>(alloc, text), "a branch");
-    }
+    holds(
+        &rt,
+        are_values::<Statement>(alloc, STATEMENTS),
+        "statements",
+    );
+    holds(&rt, are_values::<Branch>(alloc, BRANCHES), "branches");
 }
 
 #[test]
@@ -147,11 +114,11 @@ fn other_texts_are_no_statements_and_no_branches(rt: HostRuntime) {
 #[test]
 fn statements_run_out_after_128_levels(rt: HostRuntime) {
     let alloc = rt.alloc();
-    let blocks = ends_at_128::<Statement>(alloc, "Block([", "Block([])", "])", 902);
+    let blocks = ends_after_128::<Statement>(alloc, &DEEP_BLOCK, 902);
     holds(&rt, blocks, "blocks");
-    let choices = ends_at_128::<Statement>(alloc, "If((then:", "Block([])", "))", 1158);
+    let choices = ends_after_128::<Statement>(alloc, &DEEP_CHOICE, 1158);
     holds(&rt, choices, "choices");
-    let branches = ends_at_128::<Branch>(alloc, "(then:If(", "(then:Block([]))", "))", 1164);
+    let branches = ends_after_128::<Branch>(alloc, &DEEP_BRANCH, 1164);
     holds(&rt, branches, "branches");
 }
 

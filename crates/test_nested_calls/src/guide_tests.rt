@@ -1,11 +1,11 @@
 //! Three types that contain each other, in JSON and RON.
 
-use crate::checks::holds;
-use crate::json_checks::{is_read_back, is_rejected, nested};
-use crate::{Guide, Stop, Way};
-use nano_json_nested::{BothJson, DeJson, SerJson};
-use nano_ron_nested::{DeRon, SerRon};
+use crate::checks::{Deep, holds, nested};
+use crate::json_checks::{is_read_back, is_rejected};
+use nano_json::{BothJson, DeJson, SerJson};
+use nano_ron::{DeRon, SerRon};
 use std::alloc::Global;
+use test_nested::{Guide, Stop, Way};
 
 const GUIDES: &[&str] = &[
     r#"{"name":"","stops":[]}"#,
@@ -36,13 +36,15 @@ const NO_GUIDES: &[(&str, usize, &str)] = &[
 ];
 
 /// A guide that goes on with another one.
-const OPENING: &str = r#"{"name":"","stops":[],"next":"#;
+const DEEP_GUIDE: Deep = Deep {
+    opening: r#"{"name":"","stops":[],"next":"#,
+    innermost: r#"{"name":"","stops":[]}"#,
+    closing: "}",
+};
 
-const INNERMOST: &str = r#"{"name":"","stops":[]}"#;
-
-/// Guides that go on so often, in all, are a value or none.
-fn are_read<T: BothJson>(alloc: Global, levels: usize) -> bool {
-    match nested(alloc, levels, OPENING, INNERMOST, "}") {
+/// A guide with so many around it is a value.
+fn is_read<T: BothJson>(alloc: Global, around: usize) -> bool {
+    match nested(alloc, &DEEP_GUIDE, around) {
         Ok(text) => is_read_back::<T>(alloc, text.as_str()),
         Err(_failed) => false,
     }
@@ -101,6 +103,6 @@ fn other_texts_are_no_guides(rt: HostRuntime) {
 #[test]
 fn guides_run_out_after_64_levels(rt: HostRuntime) {
     let alloc = rt.alloc();
-    holds(&rt, are_read::<Guide>(alloc, 64), "64 levels");
-    holds(&rt, !are_read::<Guide>(alloc, 65), "65 levels");
+    holds(&rt, is_read::<Guide>(alloc, 63), "64 levels");
+    holds(&rt, !is_read::<Guide>(alloc, 64), "65 levels");
 }

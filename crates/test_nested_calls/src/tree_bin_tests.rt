@@ -1,9 +1,8 @@
 //! Types that contain themselves, as bytes, by impls that `derive` writes.
 
+use crate::bin_checks::{Deep, are_values, ends_after, is_rejected};
 use crate::checks::holds;
-use crate::{Chain, Expression, Folder, Rule, Tree};
-use nano_bin::{BothBin, DeBin, DeBinKind};
-use std::alloc::{AllocError, Global};
+use test_nested_derived::{Chain, Expression, Folder, Rule, Tree};
 
 const TREES: &[&[u8]] = &[
     &[0, 0, 254, 255, 255, 255],
@@ -37,13 +36,6 @@ const NO_TREES: &[(&[u8], usize)] = &[
     (&[1, 0, 1, 0, 0, 0, 0, 0, 0, 0, 9, 0], 10),
 ];
 
-/// What stands before the value inside another, of which it is the last part, and the innermost
-/// value.
-struct Deep {
-    around: &'static [u8],
-    inner: &'static [u8],
-}
-
 const DEEP_TREE: Deep = Deep {
     around: &[1, 0, 1, 0, 0, 0, 0, 0, 0, 0],
     inner: &[0, 0, 4, 0, 0, 0],
@@ -69,58 +61,6 @@ const DEEP_RULE: Deep = Deep {
     inner: &[0, 0],
 };
 
-/// All of the bytes are a value, and are what is written of it.
-fn is_read_back<T: BothBin>(alloc: Global, bytes: &[u8]) -> bool {
-    let Ok(value) = T::deserialize_bin_whole(alloc, bytes) else {
-        return false;
-    };
-    match value.serialize_bin(alloc) {
-        Ok(written) => written.as_slice() == bytes,
-        Err(_error) => false,
-    }
-}
-
-/// No value begins the bytes: that is found at this place, by the levels or not.
-fn is_rejected<T: DeBin>(alloc: Global, bytes: &[u8], place: usize, is_too_deep: bool) -> bool {
-    match T::deserialize_bin(alloc, bytes) {
-        Ok(_value) => false,
-        Err(error) => error.o == place && (error.kind == DeBinKind::Memory) == is_too_deep,
-    }
-}
-
-/// Each is a value, written as the same bytes.
-fn are_values<T: BothBin>(alloc: Global, rows: &[&[u8]]) -> bool {
-    for bytes in rows {
-        if !is_read_back::<T>(alloc, bytes) {
-            return false;
-        }
-    }
-    true
-}
-
-/// Values one in the other, so many.
-fn nested(alloc: Global, deep: &Deep, count: usize) -> Result<Vec<u8>, AllocError> {
-    let mut bytes = Vec::new(alloc);
-    for _ in 1..count {
-        bytes.extend_from_slice(deep.around)?;
-    }
-    bytes.extend_from_slice(deep.inner)?;
-    Ok(bytes)
-}
-
-/// Whether so many values one in the other are read, and of one more the levels run out at this
-/// place.
-fn ends_after<T: BothBin>(
-    alloc: Global,
-    deep: &Deep,
-    levels: usize,
-    place: usize,
-) -> Result<bool, AllocError> {
-    let bytes = nested(alloc, deep, levels)?;
-    let deeper = nested(alloc, deep, levels.saturating_add(1))?;
-    Ok(is_read_back::<T>(alloc, &bytes) && is_rejected::<T>(alloc, &deeper, place, true))
-}
-
 #[test]
 fn types_that_contain_themselves_are_bytes(rt: HostRuntime) {
     let alloc = rt.alloc();
@@ -144,13 +84,13 @@ fn other_bytes_are_rejected_where_they_differ(rt: HostRuntime) {
 fn levels_run_out_after_as_many_as_are_read(rt: HostRuntime) {
     let alloc = rt.alloc();
     let trees = ends_after::<Tree>(alloc, &DEEP_TREE, 128, 1280);
-    holds(&rt, trees.unwrap_or(false), "trees");
+    holds(&rt, trees, "trees");
     let expressions = ends_after::<Expression>(alloc, &DEEP_EXPRESSION, 128, 256);
-    holds(&rt, expressions.unwrap_or(false), "expressions");
+    holds(&rt, expressions, "expressions");
     let chains = ends_after::<Chain>(alloc, &DEEP_CHAIN, 128, 640);
-    holds(&rt, chains.unwrap_or(false), "chains");
+    holds(&rt, chains, "chains");
     let folders = ends_after::<Folder>(alloc, &DEEP_FOLDER, 128, 2048);
-    holds(&rt, folders.unwrap_or(false), "folders");
+    holds(&rt, folders, "folders");
     let rules = ends_after::<Rule>(alloc, &DEEP_RULE, 5, 30);
-    holds(&rt, rules.unwrap_or(false), "rules");
+    holds(&rt, rules, "rules");
 }

@@ -3,7 +3,6 @@
 
 ghost use Rattle.std.specs.Prelude.{codes, if◌then◌else◌, ◌==◌};
 
-use crate::Tree;
 use crate::checks::holds;
 use nano_ron::DeRonTok;
 use nano_ron_nested::{
@@ -13,6 +12,7 @@ use nano_ron_nested::{
 use nano_schema::{Label, Newtype, Required, TypeDefault};
 use std::alloc::Global;
 use std::str::Chars;
+use test_nested_derived::Tree;
 
 /// The names of the fields.
 struct Names<const I: usize> {}

@@ -1,11 +1,11 @@
 //! Types that contain each other in JSON.
 
-use crate::checks::holds;
-use crate::json_checks::{ends_at_128, is_read_back, is_rejected};
-use crate::{Branch, Statement};
+use crate::checks::{Deep, holds};
+use crate::json_checks::{are_values, ends_after_128, is_rejected};
 use nano_bin::{DeBin, SerBin};
-use nano_json_nested::{DeJson, SerJson};
+use nano_json::{DeJson, SerJson};
 use std::alloc::Global;
+use test_nested::{Branch, Statement};
 
 const STATEMENTS: &[&str] = &[
     r#"{"Assign":["a",-2]}"#,
@@ -45,11 +45,18 @@ const CHOICE: &[u8] = &[
 ];
 
 /// A choice, and the second statement of it.
-const OPENING: &str = r#"{"If":[{"then":{"Block":[[]]},"otherwise":"#;
+const DEEP_STATEMENT: Deep = Deep {
+    opening: r#"{"If":[{"then":{"Block":[[]]},"otherwise":"#,
+    innermost: r#"{"Block":[[]]}"#,
+    closing: "}]}",
+};
 
-const INNERMOST: &str = r#"{"Block":[[]]}"#;
-
-const CLOSING: &str = "}]}";
+/// A branch, and the first statement of it.
+const DEEP_BRANCH: Deep = Deep {
+    opening: r#"{"then":{"If":["#,
+    innermost: r#"{"then":{"Block":[[]]}}"#,
+    closing: "]}}",
+};
 
 /// The bytes are a value that is written as this text, and the text one that is written as them.
 fn is_written_as(alloc: Global, bytes: &[u8], text: &str) -> bool {
@@ -71,12 +78,12 @@ fn is_written_as(alloc: Global, bytes: &[u8], text: &str) -> bool {
 #[test]
 fn statements_and_branches_are_read_and_written_back(rt: HostRuntime) {
     let alloc = rt.alloc();
-    for text in STATEMENTS {
-        holds(&rt, is_read_back::<Statement>(alloc, text), "a statement");
-    }
-    for text in BRANCHES {
-        holds(&rt, is_read_back::<Branch>(alloc, text), "a branch");
-    }
+    holds(
+        &rt,
+        are_values::<Statement>(alloc, STATEMENTS),
+        "statements",
+    );
+    holds(&rt, are_values::<Branch>(alloc, BRANCHES), "branches");
 }
 
 #[test]
@@ -95,16 +102,10 @@ fn other_texts_are_no_statements_and_no_branches(rt: HostRuntime) {
 #[test]
 fn statements_run_out_after_128_levels(rt: HostRuntime) {
     let alloc = rt.alloc();
-    let is_so = ends_at_128::<Statement>(alloc, OPENING, INNERMOST, CLOSING, 5351);
-    holds(&rt, is_so, "statements");
-    let is_so = ends_at_128::<Branch>(
-        alloc,
-        r#"{"then":{"If":["#,
-        r#"{"then":{"Block":[[]]}}"#,
-        "]}}",
-        1930,
-    );
-    holds(&rt, is_so, "branches");
+    let statements = ends_after_128::<Statement>(alloc, &DEEP_STATEMENT, 5351);
+    holds(&rt, statements, "statements");
+    let branches = ends_after_128::<Branch>(alloc, &DEEP_BRANCH, 1930);
+    holds(&rt, branches, "branches");
 }
 
 #[test]

@@ -1,7 +1,6 @@
 //! The calls by which rows of fields, parts and variants are read from RON, where values of the
 //! type itself stand in them.
 
-use crate::Tree;
 use crate::checks::holds;
 use nano_ron_nested::{
     DeRonErr, DeRonState, Levels, Other, RonChoicesWithin, SerRonState, Within, append_field,
@@ -12,6 +11,7 @@ use nano_schema::{
     Defaulted, Either, Label, Newtype, Optional, Required, Struct, TypeDefault, Unit, Variant,
 };
 use std::alloc::{AllocError, Global};
+use test_nested_derived::Tree;
 
 /// The names of the variants, and of the fields.
 struct Names<const I: usize> {}

@@ -1,58 +1,14 @@
 //! Values of types with parameters, in each format, and what holds of them whatever the parameters
 //! are.
 
-use crate::{Plan, Shelf, Tree};
+use crate::checks::holds;
+use crate::json_checks::{is_read_back, is_rejected};
+use crate::{bin_checks, ron_checks};
 use nano_bin::{BothBin, SerBin};
 use nano_json::{BothJson, DeJson};
 use nano_ron::BothRon;
 use std::alloc::Global;
-use std::process::Abort;
-
-/// What is said of a call holds.
-fn holds(rt: &impl Abort, is_so: bool, call: &str) {
-    assert!(rt; is_so, "at {call}");
-}
-
-/// A text is a value of JSON, which is written as this text.
-fn is_json<T: BothJson>(alloc: Global, text: &str) -> bool {
-    let Ok(value) = T::deserialize_json_whole(alloc, text) else {
-        return false;
-    };
-    match value.serialize_json(alloc) {
-        Ok(written) => written.as_str() == text,
-        Err(_error) => false,
-    }
-}
-
-/// A text is a value of RON, which is written as this text.
-fn is_ron<T: BothRon>(alloc: Global, text: &str, wanted: &str) -> bool {
-    let Ok(value) = T::deserialize_ron_whole(alloc, text) else {
-        return false;
-    };
-    match value.serialize_ron(alloc) {
-        Ok(written) => written.as_str() == wanted,
-        Err(_error) => false,
-    }
-}
-
-/// Bytes are a value, which is written as the same bytes.
-fn is_bytes<T: BothBin>(alloc: Global, bytes: &[u8]) -> bool {
-    let Ok(value) = T::deserialize_bin_whole(alloc, bytes) else {
-        return false;
-    };
-    match value.serialize_bin(alloc) {
-        Ok(written) => written.as_slice() == bytes,
-        Err(_error) => false,
-    }
-}
-
-/// No value is there: that is found in this column, and said in these words.
-fn is_rejected<T: DeJson>(alloc: Global, text: &str, column: usize, words: &str) -> bool {
-    match T::deserialize_json(alloc, text) {
-        Ok(_value) => false,
-        Err(error) => error.line == 0 && error.col == column && error.msg.as_str() == words,
-    }
-}
+use test_nested_generics::{Plan, Shelf, Tree};
 
 /// What was written of any tree as bytes is read back, and it is its only encoding.
 fn tree_comes_back<T: BothBin>(alloc: Global, tree: &Tree<T>) -> bool {
@@ -81,13 +37,13 @@ where
 fn trees_hold_what_their_parameter_is(rt: HostRuntime) {
     let alloc = rt.alloc();
     let numbers = "{\"Node\":[[{\"Leaf\":[7]},{\"Node\":[[]]}]]}";
-    holds(&rt, is_json::<Tree<u8>>(alloc, numbers), "numbers");
+    holds(&rt, is_read_back::<Tree<u8>>(alloc, numbers), "numbers");
     let texts = "{\"Node\":[[{\"Leaf\":[\"a\"]},{\"Leaf\":[\"\"]}]]}";
-    holds(&rt, is_json::<Tree<String>>(alloc, texts), "texts");
+    holds(&rt, is_read_back::<Tree<String>>(alloc, texts), "texts");
     let lists = "{\"Leaf\":[[1,2]]}";
-    holds(&rt, is_json::<Tree<Vec<u8>>>(alloc, lists), "lists");
+    holds(&rt, is_read_back::<Tree<Vec<u8>>>(alloc, lists), "lists");
     let trees = "{\"Leaf\":[{\"Leaf\":[true]}]}";
-    holds(&rt, is_json::<Tree<Tree<bool>>>(alloc, trees), "trees");
+    holds(&rt, is_read_back::<Tree<Tree<bool>>>(alloc, trees), "trees");
     let words = "Value out of range 300>255 ";
     holds(
         &rt,
@@ -95,11 +51,15 @@ fn trees_hold_what_their_parameter_is(rt: HostRuntime) {
         "a leaf that is too great",
     );
     let code = [1, 0, 2, 0, 0, 0, 0, 0, 0, 0, 0, 0, 7, 0, 0, 8];
-    holds(&rt, is_bytes::<Tree<u8>>(alloc, &code), "bytes");
+    holds(
+        &rt,
+        bin_checks::is_read_back::<Tree<u8>>(alloc, &code),
+        "bytes",
+    );
     let code = [0, 0, 1, 0, 0, 0, 0, 0, 0, 0, 97];
     holds(
         &rt,
-        is_bytes::<Tree<String>>(alloc, &code),
+        bin_checks::is_read_back::<Tree<String>>(alloc, &code),
         "bytes of a text",
     );
 }
@@ -114,14 +74,22 @@ fn plans_have_variants_of_each_shape(rt: HostRuntime) {
         "{\"Both\":[\"Nothing\",3]}",
         "{\"Step\":{\"item\":1,\"next\":[{\"Both\":[{\"One\":[2]},null]}]}}",
     ] {
-        holds(&rt, is_json::<Plan<i64>>(alloc, text), text);
+        holds(&rt, is_read_back::<Plan<i64>>(alloc, text), text);
     }
     let text = "Step(item:1,next:[Both(One(2),None),Many([3])])";
     let written =
         "Step(\n    item:1,\n    next:[\n        Both(One(2), None),\n        Many([\n            3,\n        ]),\n    ],\n)";
-    holds(&rt, is_ron::<Plan<i64>>(alloc, text, written), "RON");
+    holds(
+        &rt,
+        ron_checks::is_written_as::<Plan<i64>>(alloc, text, written),
+        "RON",
+    );
     let code = [3, 0, 1, 0, 5, 1, 6];
-    holds(&rt, is_bytes::<Plan<u8>>(alloc, &code), "bytes");
+    holds(
+        &rt,
+        bin_checks::is_read_back::<Plan<u8>>(alloc, &code),
+        "bytes",
+    );
 }
 
 #[test]
@@ -129,7 +97,11 @@ fn shelves_have_two_parameters(rt: HostRuntime) {
     let alloc = rt.alloc();
     let text =
         "{\"name\":\"a\",\"values\":{\"x\":1},\"best\":2,\"inner\":[{\"name\":\"b\",\"values\":{},\"inner\":[]}]}";
-    holds(&rt, is_json::<Shelf<String, u8>>(alloc, text), "a shelf");
+    holds(
+        &rt,
+        is_read_back::<Shelf<String, u8>>(alloc, text),
+        "a shelf",
+    );
     let words = "Key not found name";
     holds(
         &rt,

@@ -1,7 +1,6 @@
 //! The calls by which rows of fields and variants are read, where values of the type itself stand
 //! in them, and containers of such values. Each is made once, with what it returns.
 
-use crate::Tree;
 use crate::checks::holds;
 use nano_bin::DeBinKind;
 use nano_bin_nested::{
@@ -10,6 +9,7 @@ use nano_bin_nested::{
 use nano_schema::{Either, Newtype, Variant};
 use std::alloc::Global;
 use std::collections::{HashMap, LinkedList};
+use test_nested_derived::Tree;
 
 /// The name of both variants.
 struct Name {}

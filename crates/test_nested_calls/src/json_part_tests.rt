@@ -3,7 +3,6 @@
 
 ghost use Rattle.std.specs.Prelude.{codes, if◌then◌else◌, ◌==◌};
 
-use crate::Tree;
 use crate::checks::holds;
 use nano_json_nested::{
     DeJsonErr, DeJsonState, JsonContentWithin, JsonFieldsWithin, JsonPartsWithin, Levels, Other,
@@ -13,6 +12,7 @@ use nano_json_schema::Part;
 use nano_schema::{Label, Newtype, Required, Tuple};
 use std::alloc::{AllocError, Global};
 use std::str::Chars;
+use test_nested_derived::Tree;
 
 /// The names of the fields.
 struct Names<const I: usize> {}
