@@ -6,7 +6,7 @@ ghost use Rattle.nano_meaning.proofs.AgreesLaws.{agreed};
 ghost use Rattle.nano_bin.specs.BaseCodecs.{codec_as as seen_as};
 ghost use Rattle.nano_json.specs.Codec.{codec_as};
 ghost use Rattle.nano_json_schema.specs.FieldCodecs.{required_field, optional_field, fields_pair};
-ghost use Rattle.nano_json_schema.specs.FieldCodecs.{ascii_names, fields_codec};
+ghost use Rattle.nano_json_schema.specs.FieldCodecs.{plain_names, fields_codec};
 
 use nano_bin::{BinCodec, DeBin, DeBinErr, SerBin, append_part};
 use nano_json::{DeJson, DeJsonErr, DeJsonState, JsonCodec, SerJson, SerJsonState};
@@ -91,7 +91,7 @@ impl JsonCodec for Item {
     ghost json = { codec_as (λ item. (item.value, item.note)) (fields_codec
         (fields_pair (required_field (codes "value") ⟦<i32 as JsonCodec>⟧.json)
         (optional_field (codes "note") ⟦<String as JsonCodec>⟧.json))
-        (ascii_names refl) refl) };
+        (plain_names refl) refl) };
 
     ghost agrees = { agreed };
 }

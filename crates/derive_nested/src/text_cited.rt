@@ -134,7 +134,7 @@ pub(crate) const JSON: [Known; 11] = [
     Known {
         module: "nano_json_schema.specs.FieldCodecs",
         names: &[
-            "ascii_names",
+            "plain_names",
             "defaulted_field",
             "json_fields",
             "optional_field",

@@ -66,7 +66,7 @@ pub(crate) const JSON: TextTerms = TextTerms {
     option: "null_style",
     tuple: "tuple_style block_brackets",
     fields: "json_fields",
-    names: "ascii_names refl",
+    names: "plain_names refl",
     variants: "json_variants",
     fits: "λ f x d. tt",
     alone: "written_text",

@@ -9,6 +9,7 @@ mod choices;
 mod contents;
 mod fields;
 mod record;
+mod skipped;
 
 pub use choice::{read_choice_bin, write_choice_bin};
 pub use choices::{BinChoiceRefs, BinChoices, BinShapes};

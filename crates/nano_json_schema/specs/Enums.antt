@@ -9,7 +9,7 @@ use Rattle.nano_grammar.specs.Choices.{ChoiceCodec}
 use Rattle.nano_grammar.proofs.ChoicesLaws.{choice_codec}
 
 -- an enum as the content of the variant that it is, and the format of the variants. The last three
--- are `refl` each: they check that the names of the fields are ASCII of which no character needs
+-- are `refl` each: they check that the names of the fields are UTF-8 of which no character needs
 -- an escape, and none occurs twice in a variant; that those of the variants are such too; and
 -- that no two variants have one name
 abbrev pub json_choice : {A B : Type 0} (view : A → B) (variants : ChoiceCodec json_variants B)

@@ -18,8 +18,8 @@ use Rattle.nano_json_tokens.proofs.ScalarsLaws.{str_injective}
 use Rattle.nano_json_tokens.specs.Skipped.{SkippedField}
 use Rattle.nano_json_tokens.specs.Token.{Token, str}
 use Rattle.nano_json_tokens.proofs.BracketCounts.{skipped_apart}
-use Rattle.nano_json_tokens.specs.Names.{IsPlainName, are_ascii_names, quoted_name}
-use Rattle.nano_json_tokens.proofs.NamesLaws.{name_is_written, each_ascii}
+use Rattle.nano_json_tokens.specs.Names.{IsPlainName, are_plain_names, quoted_name}
+use Rattle.nano_json_tokens.proofs.NamesLaws.{name_is_written, each_plain}
 pub use Rattle.nano_grammar.proofs.StructCodecLaws.{fields_codec}
 use Rattle.nano_grammar.proofs.TuplesLaws.{last_codec, tuple_codec}
 use Rattle.nano_json.specs.Codec.{Codec, codec_as}
@@ -119,14 +119,14 @@ strict f = record {
   are_written = λ names. f.are_written (record { each = names.each });
 }
 
--- names of ASCII can be written: `ascii_names refl` checks it for given names
-pub ascii_names : {names : List (List ℕ)} → are_ascii_names names ≡ true
+-- plain names can be written: `plain_names refl` checks it for given names
+pub plain_names : {names : List (List ℕ)} → are_plain_names names ≡ true
     → AreNames json_fields names
-ascii_names {names} h = record { each = each_ascii names h }
+plain_names {names} h = record { each = each_plain names h }
 
-pub strict_names : {names : List (List ℕ)} → are_ascii_names names ≡ true
+pub strict_names : {names : List (List ℕ)} → are_plain_names names ≡ true
     → AreNames strict_fields names
-strict_names {names} h = record { each = each_ascii names h }
+strict_names {names} h = record { each = each_plain names h }
 
 -- ==== parts of tuple structs
 

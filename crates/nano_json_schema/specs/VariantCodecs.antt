@@ -11,13 +11,13 @@ use Rattle.nano_json_tokens.proofs.JsonLaws.{json, curlies_are, colon_is, no_gap
 use Rattle.nano_json_tokens.specs.Cut.{json_grammar}
 use Rattle.nano_json_tokens.proofs.ScalarsLaws.{text_one}
 use Rattle.nano_json_tokens.specs.Written.{written_text}
-use Rattle.nano_json_tokens.specs.Names.{is_variant_name, are_ascii_names}
+use Rattle.nano_json_tokens.specs.Names.{is_variant_name, are_plain_names}
 use Rattle.nano_json_tokens.proofs.NamesLaws.{variant_name_is_text}
 use Rattle.nano_json_schema.specs.Variants.{alone, opened, content_text}
 use Rattle.nano_grammar.specs.FieldCodec.{FieldsCodec, fields_text}
 use Rattle.nano_grammar.specs.Fields.{are_distinct}
 use Rattle.nano_grammar.proofs.StructLaws.{fields_of}
-use Rattle.nano_json_schema.specs.FieldCodecs.{json_fields, ascii_names, fields_codec}
+use Rattle.nano_json_schema.specs.FieldCodecs.{json_fields, plain_names, fields_codec}
 use Rattle.nano_grammar.specs.Choices.{no_more, more, Content}
 use Rattle.nano_grammar.proofs.ChoicesLaws.{alone_placed, body_placed}
 
@@ -99,16 +99,16 @@ content_as f = record {
   placed = λ _. body_placed json_variants (body f);
 }
 
--- named fields, of which each name is ASCII that needs no escape, and none stands twice
+-- named fields, of which each name is UTF-8 that needs no escape, and none stands twice
 abbrev pub fields_content : {A : Type 0} → FieldsCodec json_fields A → Content json_variants A
 fields_content f =
     let all = f.canonical.names in
     record {
       rest = more (fields_of json_fields f.struct);
       text = λ name d x. content_text name (fields_text json_fields d (f.canonical.fields x));
-      good = are_ascii_names all && are_distinct all;
+      good = are_plain_names all && are_distinct all;
       placed = λ ok.
-          let parts = and_parts (are_ascii_names all) (are_distinct all) ok in
+          let parts = and_parts (are_plain_names all) (are_distinct all) ok in
           body_placed json_variants
-          (body (fields_codec f (ascii_names {names = all} parts.0) parts.1));
+          (body (fields_codec f (plain_names {names = all} parts.0) parts.1));
     }

@@ -1,4 +1,5 @@
-//! The defaults of the types of the standard library in JSON.
+//! Which defaults are read back from JSON: each of a number, a boolean, `()` or a text, and an absent
+//! value or no items.
 
 ghost use Rattle.nano_json_schema.specs.DefaultImpls.{none_is_sound, set_is_sound, map_is_sound};
 ghost use Rattle.nano_json_schema.specs.DefaultImpls.{ordered_set_is_sound, ordered_map_is_sound};
@@ -6,56 +7,56 @@ ghost use Rattle.nano_json_schema.specs.DefaultImpls.{list_is_sound};
 
 use crate::defaulted::JsonDefaultOf;
 use nano_json::JsonCodec;
-use nano_schema::TypeDefault;
+use nano_schema::{DefaultOf, TypeDefault};
 use nano_value::Key;
 use std::collections::{BTreeMap, BTreeSet, HashMap, HashSet, LinkedList};
 use std::hash::Hash;
 
-impl JsonDefaultOf<u8> for TypeDefault {
+impl<D: DefaultOf<u8>> JsonDefaultOf<u8> for D {
     ghost is_sound = { λ x e. tt };
 }
 
-impl JsonDefaultOf<u16> for TypeDefault {
+impl<D: DefaultOf<u16>> JsonDefaultOf<u16> for D {
     ghost is_sound = { λ x e. tt };
 }
 
-impl JsonDefaultOf<u32> for TypeDefault {
+impl<D: DefaultOf<u32>> JsonDefaultOf<u32> for D {
     ghost is_sound = { λ x e. tt };
 }
 
-impl JsonDefaultOf<u64> for TypeDefault {
+impl<D: DefaultOf<u64>> JsonDefaultOf<u64> for D {
     ghost is_sound = { λ x e. tt };
 }
 
-impl JsonDefaultOf<usize> for TypeDefault {
+impl<D: DefaultOf<usize>> JsonDefaultOf<usize> for D {
     ghost is_sound = { λ x e. tt };
 }
 
-impl JsonDefaultOf<i8> for TypeDefault {
+impl<D: DefaultOf<i8>> JsonDefaultOf<i8> for D {
     ghost is_sound = { λ x e. tt };
 }
 
-impl JsonDefaultOf<i16> for TypeDefault {
+impl<D: DefaultOf<i16>> JsonDefaultOf<i16> for D {
     ghost is_sound = { λ x e. tt };
 }
 
-impl JsonDefaultOf<i32> for TypeDefault {
+impl<D: DefaultOf<i32>> JsonDefaultOf<i32> for D {
     ghost is_sound = { λ x e. tt };
 }
 
-impl JsonDefaultOf<i64> for TypeDefault {
+impl<D: DefaultOf<i64>> JsonDefaultOf<i64> for D {
     ghost is_sound = { λ x e. tt };
 }
 
-impl JsonDefaultOf<bool> for TypeDefault {
+impl<D: DefaultOf<bool>> JsonDefaultOf<bool> for D {
     ghost is_sound = { λ x e. tt };
 }
 
-impl JsonDefaultOf<()> for TypeDefault {
+impl<D: DefaultOf<()>> JsonDefaultOf<()> for D {
     ghost is_sound = { λ x e. tt };
 }
 
-impl JsonDefaultOf<String> for TypeDefault {
+impl<D: DefaultOf<String>> JsonDefaultOf<String> for D {
     ghost is_sound = { λ x e. tt };
 }
 

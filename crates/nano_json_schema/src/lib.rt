@@ -21,6 +21,7 @@ mod plain;
 mod read;
 mod record;
 mod required;
+mod skipped;
 mod tuples;
 mod unknown;
 mod variant_writer;

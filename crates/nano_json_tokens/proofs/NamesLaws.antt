@@ -2,11 +2,13 @@
 use Rattle.std.specs.Prelude.{◌≡◌, ◌≢◌, ℕ, ◌<◌, not, nat_lt, true, List, [], ◌∷◌, ◌++◌, map, length}
 use Rattle.std.specs.Prelude.{chars, encode_utf8_all, IsUtf8, refl}
 use Rattle.std.specs.List.{AllByRecursion, list_all, flat_map}
-use Rattle.std.proofs.Common.{sym, ◌∙◌, ap, subst, append_assoc, ne_eqb, arith}
+use Rattle.std.proofs.Common.{sym, ◌∙◌, ap, subst, append_assoc, ne_eqb, arith, inl, inr}
 use Rattle.std.proofs.Math.Utf8.{scalar, scalars}
 use Rattle.std.proofs.lemmas.Bool.Decides.{nat_tests}
 use Rattle.std.proofs.lemmas.Str.{encode_ascii, encodes-chars, scalars-chars, chars_from_encodes}
-use Rattle.std.proofs.lemmas.Bool.{and_parts, and_from}
+use Rattle.std.proofs.lemmas.Bool.{and_parts, and_from, or_cases}
+use Rattle.std.proofs.lemmas.Slice.Eq.{bytes_eq-Decides}
+use Rattle.std.specs.Prelude.{bytes_eq, ◌&&◌}
 use Rattle.nano_value.specs.Meaning.{IsText, usize_bound}
 use Rattle.nano_text.specs.String.{plain, IsPiece, IsString, piece_text, piece_char}
 use Rattle.nano_grammar.specs.Tokens.{IsValueText, is_textual, AllTextual}
@@ -15,8 +17,8 @@ use Rattle.nano_json_tokens.specs.Cut.{quoted}
 use Rattle.nano_json_tokens.proofs.JsonLaws.{json}
 use Rattle.nano_json_tokens.specs.Token.{str}
 use Rattle.nano_json_tokens.specs.Written.{stands_as_itself}
-use Rattle.nano_json_tokens.specs.Names.{IsPlainName, is_plain_ascii, are_ascii_names}
-use Rattle.nano_json_tokens.specs.Names.{is_variant_name, quoted_name}
+use Rattle.nano_json_tokens.specs.Names.{IsPlainName, is_plain_ascii, is_plain_utf8, is_plain_name}
+use Rattle.nano_json_tokens.specs.Names.{are_plain_names, is_variant_name, quoted_name}
 
 -- ---- a plain name is cut into its token
 
@@ -133,16 +135,36 @@ ascii_name name h =
       themselves = subst (λ cs. list_all stands_as_itself cs ≡ true) same ascii.themselves;
     }
 
-pub each_ascii : (names : List (List ℕ)) → are_ascii_names names ≡ true
+-- ---- and so are other names of UTF-8
+
+utf8_name : (name : List ℕ) → is_plain_utf8 name ≡ true → IsPlainName name
+utf8_name name h =
+    let cs = chars name in
+    let same = bytes_eq (encode_utf8_all cs) name in
+    let itself = list_all stands_as_itself cs in
+    let parts = and_parts (scalars cs) (same && itself) h in
+    let rest = and_parts same itself parts.1 in
+    record {
+      utf8 = (cs, (parts.0, (bytes_eq-Decides (encode_utf8_all cs) name).0 rest.0));
+      themselves = rest.1;
+    }
+
+pub plain_name : (name : List ℕ) → is_plain_name name ≡ true → IsPlainName name
+plain_name name h = elim (or_cases (list_all is_plain_ascii name) (is_plain_utf8 name) h) [
+  | inl k ↦ ascii_name name k
+  | inr k ↦ utf8_name name k
+]
+
+pub each_plain : (names : List (List ℕ)) → are_plain_names names ≡ true
     → AllByRecursion IsPlainName names
-each_ascii [] h = tt
-each_ascii (name ∷ names) h =
-    let first = and_parts (list_all is_plain_ascii name) (are_ascii_names names) h in
-    (ascii_name name first.0, each_ascii names first.1)
+each_plain [] h = tt
+each_plain (name ∷ names) h =
+    let first = and_parts (is_plain_name name) (are_plain_names names) h in
+    (plain_name name first.0, each_plain names first.1)
 
 pub variant_name_is_text : (bytes : List ℕ) → is_variant_name bytes ≡ true → IsText bytes
 variant_name_is_text bytes e =
-    let parts = and_parts (list_all is_plain_ascii bytes) (nat_lt (length bytes) usize_bound) e in
-    let plain = ascii_name bytes parts.0 in
+    let parts = and_parts (is_plain_name bytes) (nat_lt (length bytes) usize_bound) e in
+    let plain = plain_name bytes parts.0 in
     let small = parts.1 in
     record { count = grind (arith, nat_tests, small); utf8 = plain.utf8 }

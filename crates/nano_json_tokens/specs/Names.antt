@@ -1,6 +1,7 @@
 -- Names of fields and variants in JSON.
-use Rattle.std.specs.Prelude.{◌≡◌, ℕ, ◌&&◌, nat_lt, Bool, true, List, [], ◌∷◌, ◌++◌, length, chars}
-use Rattle.std.specs.Prelude.{IsUtf8}
+use Rattle.std.specs.Prelude.{◌≡◌, ℕ, ◌&&◌, ◌||◌, nat_lt, Bool, true, List, [], ◌∷◌, ◌++◌, length}
+use Rattle.std.specs.Prelude.{IsUtf8, bytes_eq, chars, encode_utf8_all}
+use Rattle.std.specs.Str.{all_scalars}
 use Rattle.std.specs.List.{list_all}
 use Rattle.nano_value.specs.Meaning.{usize_bound}
 use Rattle.nano_json_tokens.specs.Written.{stands_as_itself}
@@ -14,13 +15,22 @@ pub record IsPlainName (name : List ℕ) : Type 0 where
 abbrev pub is_plain_ascii : ℕ → Bool
 is_plain_ascii c = nat_lt c 128 && stands_as_itself c
 
--- names of ASCII whose characters are written as themselves
-abbrev pub are_ascii_names : List (List ℕ) → Bool
-are_ascii_names names = list_all (λ name. list_all is_plain_ascii name) names
+-- the bytes are UTF-8, and each character is written as itself
+abbrev pub is_plain_utf8 : List ℕ → Bool
+is_plain_utf8 name =
+    let cs = chars name in
+    all_scalars cs && (bytes_eq (encode_utf8_all cs) name && list_all stands_as_itself cs)
 
--- bytes of ASCII that need no escape, so many that a `usize` counts them
+-- the same, of which ASCII is seen byte by byte
+abbrev pub is_plain_name : List ℕ → Bool
+is_plain_name name = list_all is_plain_ascii name || is_plain_utf8 name
+
+abbrev pub are_plain_names : List (List ℕ) → Bool
+are_plain_names names = list_all is_plain_name names
+
+-- a plain name of so many bytes that a `usize` counts them
 abbrev pub is_variant_name : List ℕ → Bool
-is_variant_name bytes = list_all is_plain_ascii bytes && nat_lt (length bytes) usize_bound
+is_variant_name bytes = is_plain_name bytes && nat_lt (length bytes) usize_bound
 
 -- a quote, the characters of a name as they are, a quote
 abbrev pub quoted_name : List ℕ → List ℕ

@@ -1,4 +1,5 @@
-//! The defaults of the types of the standard library in RON.
+//! Which defaults are read back from RON: each of a number, a boolean, `()` or a text, and an absent
+//! value or no items.
 
 ghost use Rattle.nano_ron_schema.specs.DefaultImpls.{none_is_sound, set_is_sound, map_is_sound};
 ghost use Rattle.nano_ron_schema.specs.DefaultImpls.{ordered_set_is_sound, ordered_map_is_sound};
@@ -6,56 +7,56 @@ ghost use Rattle.nano_ron_schema.specs.DefaultImpls.{vector_is_sound, linked_is_
 
 use crate::defaulted::RonDefaultOf;
 use nano_ron::RonCodec;
-use nano_schema::TypeDefault;
+use nano_schema::{DefaultOf, TypeDefault};
 use nano_value::Key;
 use std::collections::{BTreeMap, BTreeSet, HashMap, HashSet, LinkedList};
 use std::hash::Hash;
 
-impl RonDefaultOf<u8> for TypeDefault {
+impl<D: DefaultOf<u8>> RonDefaultOf<u8> for D {
     ghost is_sound = { λ x e. tt };
 }
 
-impl RonDefaultOf<u16> for TypeDefault {
+impl<D: DefaultOf<u16>> RonDefaultOf<u16> for D {
     ghost is_sound = { λ x e. tt };
 }
 
-impl RonDefaultOf<u32> for TypeDefault {
+impl<D: DefaultOf<u32>> RonDefaultOf<u32> for D {
     ghost is_sound = { λ x e. tt };
 }
 
-impl RonDefaultOf<u64> for TypeDefault {
+impl<D: DefaultOf<u64>> RonDefaultOf<u64> for D {
     ghost is_sound = { λ x e. tt };
 }
 
-impl RonDefaultOf<usize> for TypeDefault {
+impl<D: DefaultOf<usize>> RonDefaultOf<usize> for D {
     ghost is_sound = { λ x e. tt };
 }
 
-impl RonDefaultOf<i8> for TypeDefault {
+impl<D: DefaultOf<i8>> RonDefaultOf<i8> for D {
     ghost is_sound = { λ x e. tt };
 }
 
-impl RonDefaultOf<i16> for TypeDefault {
+impl<D: DefaultOf<i16>> RonDefaultOf<i16> for D {
     ghost is_sound = { λ x e. tt };
 }
 
-impl RonDefaultOf<i32> for TypeDefault {
+impl<D: DefaultOf<i32>> RonDefaultOf<i32> for D {
     ghost is_sound = { λ x e. tt };
 }
 
-impl RonDefaultOf<i64> for TypeDefault {
+impl<D: DefaultOf<i64>> RonDefaultOf<i64> for D {
     ghost is_sound = { λ x e. tt };
 }
 
-impl RonDefaultOf<bool> for TypeDefault {
+impl<D: DefaultOf<bool>> RonDefaultOf<bool> for D {
     ghost is_sound = { λ x e. tt };
 }
 
-impl RonDefaultOf<()> for TypeDefault {
+impl<D: DefaultOf<()>> RonDefaultOf<()> for D {
     ghost is_sound = { λ x e. tt };
 }
 
-impl RonDefaultOf<String> for TypeDefault {
+impl<D: DefaultOf<String>> RonDefaultOf<String> for D {
     ghost is_sound = { λ x e. tt };
 }
 

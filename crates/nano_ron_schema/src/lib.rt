@@ -19,6 +19,7 @@ mod part;
 mod read;
 mod record;
 mod required;
+mod skipped;
 mod tuples;
 mod variant_writer;
 mod variants;

@@ -2,7 +2,7 @@
 
 ghost use Rattle.std.specs.Option.{option_map};
 ghost use Rattle.nano_value.specs.Meaning.{Meaning, optional, paired, pair_map, LegalOption};
-ghost use Rattle.nano_value.specs.Meaning.{LegalPair};
+ghost use Rattle.nano_value.specs.Meaning.{LegalPair, LegalUnit, nothing};
 
 use crate::labels::Label;
 use nano_value::Value;
@@ -47,6 +47,16 @@ pub struct Aliased<N, F> {
     pub alias: PhantomData<N>,
     /// The field.
     pub field: PhantomData<F>,
+}
+
+/// A field that is neither written nor read, by the type of its value and what it is made as
+/// (`DefaultOf`). It has no name in a text, and its value means nothing.
+#[derive(Drop)]
+pub struct Skipped<T, D> {
+    /// The type of its value.
+    pub of: PhantomData<T>,
+    /// What it is made as.
+    pub made: PhantomData<D>,
 }
 
 /// The label of a field is its name.
@@ -213,6 +223,28 @@ impl<'a, N, F: Borrowed<'a>> Borrowed<'a> for Aliased<N, F> {
     fn known(refs: &F::Refs) {
         F::known(refs);
     }
+}
+
+impl<T, D> Shape for Skipped<T, D> {
+    type Values = T;
+
+    ghost means = { λ x. nothing };
+
+    ghost legal = { LegalUnit };
+}
+
+impl<'a, T: 'a, D> Borrowed<'a> for Skipped<T, D> {
+    type Values = T;
+
+    type Refs = &'a T;
+
+    ghost values = { λ r. r.now };
+
+    ghost means = { λ x. nothing };
+
+    ghost legal = { LegalUnit };
+
+    fn known(_refs: &&'a T) {}
 }
 
 impl<A: Shape, B: Shape> Shape for (A, B) {

@@ -12,3 +12,15 @@ pub trait Label {
     fn text() -> &'static str
         ensures { result.now ≡ label };
 }
+
+/// The name of a number, of names that are numbered from 0 on: the arms of a `match` over the
+/// number.
+#[macro_export]
+macro_rules! name_of {
+    ($number:expr, $($i:literal => $name:literal,)+ _ => $last:literal) => {
+        match $number {
+            $($i => $name,)+
+            _ => $last,
+        }
+    };
+}

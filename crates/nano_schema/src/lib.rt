@@ -12,6 +12,7 @@ mod contents;
 mod default_numbers;
 mod defaults;
 mod fields;
+mod given;
 mod labels;
 mod record;
 
@@ -19,7 +20,11 @@ pub use choice::{EnumSchema, VariantRefs, known_variant};
 pub use choices::{BorrowedChoices, Choices, Either, Variant};
 pub use contents::{Newtype, Struct, Tuple, Unit};
 pub use defaults::{DefaultOf, TypeDefault};
-pub use fields::{Aliased, Borrowed, Defaulted, Optional, Required, Shape};
+pub use fields::{Aliased, Borrowed, Defaulted, Optional, Required, Shape, Skipped};
+pub use given::{
+    DefaultBool, DefaultI8, DefaultI16, DefaultI32, DefaultI64, DefaultU8, DefaultU16, DefaultU32,
+    DefaultU64, DefaultUsize,
+};
 pub use labels::Label;
 pub use nano_value::{Key, OrderedKey, Value};
 pub use record::{FieldRefs, StructSchema, known_record};

@@ -14,7 +14,7 @@ use Rattle.nano_schema_levels.proofs.PartLaws.{seen_layer}
 use Rattle.nano_json.specs.Codec.{Codec}
 use Rattle.nano_json_tokens.specs.Cut.{json_grammar}
 use Rattle.nano_json_tokens.proofs.JsonLaws.{json, block_brackets, block_style, curly_brackets, curly_style, entry_style}
-use Rattle.nano_json_schema.specs.FieldCodecs.{ascii_names, json_fields, required_field, u16_codec, string_codec}
+use Rattle.nano_json_schema.specs.FieldCodecs.{plain_names, json_fields, required_field, u16_codec, string_codec}
 use Rattle.test_nested.specs.declared.guide.Way.{Way}
 use Rattle.test_nested.specs.declared.guide.Guide.TheOpen.{Way-F}
 use Rattle.test_nested.specs.declared.guide.Guide.TheViews.{out-Way}
@@ -41,7 +41,7 @@ way_json_fields =
     fields_pair_layer (other_fields json_fields (required_field (codes "minutes") u16_codec)) (required_layer json_fields (codes "guide") (seen_layer (λ x. x.value) itself_layer))
 
 abbrev pub way_json_layer : Layer json json_grammar Guide (WayContent Guide)
-way_json_layer = struct_layer way_json_fields (λ f. ascii_names refl) (λ f. refl)
+way_json_layer = struct_layer way_json_fields (λ f. plain_names refl) (λ f. refl)
 
 pub way_json_means_opened : (y : Way-F Guide Stop Way)
     → way_means_step (map-Way Guide Stop Way Meaning Meaning Meaning guide_means stop_means_folded way_means_folded y)
@@ -72,7 +72,7 @@ stop_json_fields =
     fields_pair_layer (required_layer json_fields (codes "ways") (seen_layer (λ x. x.entries) (ordered_map_layer curly_style curly_brackets entry_style (λ h. h) texts string_codec string_cmp (follows_order string_cmp (λ x. text (string_bytes x)) texts (texts_follow (λ x. string_bytes x))) way_around))) (optional_layer json_fields (codes "best") way_around)
 
 abbrev pub stop_json_layer : Layer json json_grammar Guide (StopContent Guide)
-stop_json_layer = struct_layer stop_json_fields (λ f. ascii_names refl) (λ f. refl)
+stop_json_layer = struct_layer stop_json_fields (λ f. plain_names refl) (λ f. refl)
 
 pub stop_json_means_opened : (y : Stop-F Guide Stop Way)
     → stop_means_step (map-Stop Guide Stop Way Meaning Meaning Meaning guide_means stop_means_folded way_means_folded y)
@@ -111,7 +111,7 @@ guide_json_fields =
     fields_pair_layer (other_fields json_fields (required_field (codes "name") string_codec)) (fields_pair_layer (required_layer json_fields (codes "stops") (seen_layer (λ x. x.items) (list_layer block_style block_brackets stop_around))) (optional_layer json_fields (codes "next") (seen_layer (λ x. x.value) itself_layer)))
 
 abbrev pub guide_json_layer : Layer json json_grammar Guide (GuideContent Guide)
-guide_json_layer = struct_layer guide_json_fields (λ f. ascii_names refl) (λ f. refl)
+guide_json_layer = struct_layer guide_json_fields (λ f. plain_names refl) (λ f. refl)
 
 pub guide_json_means_opened : (y : Guide-F Guide Stop Way)
     → guide_means_step (map-Guide Guide Stop Way Meaning Meaning Meaning guide_means stop_means_folded way_means_folded y)

@@ -17,7 +17,7 @@ use Rattle.nano_bin_nested.proofs.LegalLaws.{nested_agrees as bin_agrees}
 use Rattle.nano_json.specs.Codec.{Codec}
 use Rattle.nano_json_tokens.specs.Cut.{json_grammar}
 use Rattle.nano_json_tokens.proofs.JsonLaws.{json, block_brackets, block_style, tuple_style}
-use Rattle.nano_json_schema.specs.FieldCodecs.{ascii_names, json_fields, i32_codec, string_codec}
+use Rattle.nano_json_schema.specs.FieldCodecs.{plain_names, json_fields, i32_codec, string_codec}
 use Rattle.nano_json_schema.specs.VariantCodecs.{json_variants}
 use Rattle.test_nested.specs.declared.statement.Branch.{Branch}
 use Rattle.test_nested.specs.declared.statement.Statement.TheOpen.{Branch-F}
@@ -40,7 +40,7 @@ branch_json_fields =
     fields_pair_layer (required_layer json_fields (codes "then") itself_layer) (optional_layer json_fields (codes "otherwise") (seen_layer (λ x. x.value) itself_layer))
 
 abbrev pub branch_json_layer : Layer json json_grammar Statement (BranchContent Statement)
-branch_json_layer = struct_layer branch_json_fields (λ f. ascii_names refl) (λ f. refl)
+branch_json_layer = struct_layer branch_json_fields (λ f. plain_names refl) (λ f. refl)
 
 pub branch_json_means_opened : (y : Branch-F Statement Branch)
     → branch_means_step (map-Branch Statement Branch Meaning Meaning statement_means branch_means_folded y)

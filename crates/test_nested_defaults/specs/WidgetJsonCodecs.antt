@@ -17,7 +17,7 @@ use Rattle.nano_json.specs.Codec.{Codec}
 use Rattle.nano_json.specs.ScalarCodecs.{boolean_codec}
 use Rattle.nano_json_tokens.specs.Cut.{json_grammar}
 use Rattle.nano_json_tokens.proofs.JsonLaws.{json, block_brackets, block_style, curly_brackets, curly_style, entry_style}
-use Rattle.nano_json_schema.specs.FieldCodecs.{ascii_names, defaulted_field, json_fields, required_field, u16_codec, i32_codec, string_codec}
+use Rattle.nano_json_schema.specs.FieldCodecs.{plain_names, defaulted_field, json_fields, required_field, u16_codec, i32_codec, string_codec}
 use Rattle.test_nested_defaults.specs.declared.widget.Widget.{Widget}
 use Rattle.test_nested_defaults.specs.declared.widget.Widget.TheOpen.{Widget-F}
 use Rattle.test_nested_defaults.specs.declared.widget.Widget.TheViews.{out-Widget}
@@ -33,7 +33,7 @@ widget_json_fields =
     fields_pair_layer (fields_pair_layer (other_fields json_fields (required_field (codes "title") string_codec)) (fields_pair_layer (other_fields json_fields (defaulted_field (codes "shortcut") string_codec (text (codes "none")))) (other_fields json_fields (defaulted_field (codes "width") u16_codec (whole 80))))) (fields_pair_layer (fields_pair_layer (other_fields json_fields (defaulted_field (codes "row") i32_codec (number (neg_ℤ (pos 1))))) (other_fields json_fields (defaulted_field (codes "is_open") boolean_codec (truth true)))) (fields_pair_layer (defaulted_layer json_fields (codes "entries") (seen_layer (λ x. x.items) (list_layer block_style block_brackets itself_layer)) nothing) (defaulted_layer json_fields (codes "others") (seen_layer (λ x. x.entries) (ordered_map_layer curly_style curly_brackets entry_style (λ h. h) texts string_codec string_cmp (follows_order string_cmp (λ x. text (string_bytes x)) texts (texts_follow (λ x. string_bytes x))) itself_layer)) nothing)))
 
 abbrev pub widget_json_layer : Layer json json_grammar Widget (WidgetContent Widget)
-widget_json_layer = struct_layer widget_json_fields (λ f. ascii_names refl) (λ f. refl)
+widget_json_layer = struct_layer widget_json_fields (λ f. plain_names refl) (λ f. refl)
 
 pub widget_json_means_opened : (y : Widget-F Widget)
     → widget_means_step (map-Widget Widget Meaning widget_means y)

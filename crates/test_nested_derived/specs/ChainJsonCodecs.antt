@@ -14,7 +14,7 @@ use Rattle.nano_bin_nested.proofs.LegalLaws.{nested_agrees as bin_agrees}
 use Rattle.nano_json.specs.Codec.{Codec}
 use Rattle.nano_json_tokens.specs.Cut.{json_grammar}
 use Rattle.nano_json_tokens.proofs.JsonLaws.{json}
-use Rattle.nano_json_schema.specs.FieldCodecs.{ascii_names, json_fields, required_field, u32_codec}
+use Rattle.nano_json_schema.specs.FieldCodecs.{plain_names, json_fields, required_field, u32_codec}
 use Rattle.test_nested_derived.specs.declared.chain.Chain.{Chain}
 use Rattle.test_nested_derived.specs.declared.chain.Chain.TheOpen.{Chain-F}
 use Rattle.test_nested_derived.specs.declared.chain.Chain.TheViews.{out-Chain}
@@ -30,7 +30,7 @@ chain_json_fields =
     fields_pair_layer (other_fields json_fields (required_field (codes "number") u32_codec)) (optional_layer json_fields (codes "next") (seen_layer (λ x. x.value) itself_layer))
 
 abbrev pub chain_json_layer : Layer json json_grammar Chain (ChainContent Chain)
-chain_json_layer = struct_layer chain_json_fields (λ f. ascii_names refl) (λ f. refl)
+chain_json_layer = struct_layer chain_json_fields (λ f. plain_names refl) (λ f. refl)
 
 pub chain_json_means_opened : (y : Chain-F Chain)
     → chain_means_step (map-Chain Chain Meaning chain_means y)

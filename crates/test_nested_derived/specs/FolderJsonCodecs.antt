@@ -14,7 +14,7 @@ use Rattle.nano_bin_nested.proofs.LegalLaws.{nested_agrees as bin_agrees}
 use Rattle.nano_json.specs.Codec.{Codec}
 use Rattle.nano_json_tokens.specs.Cut.{json_grammar}
 use Rattle.nano_json_tokens.proofs.JsonLaws.{json, block_brackets, block_style}
-use Rattle.nano_json_schema.specs.FieldCodecs.{ascii_names, json_fields, required_field, string_codec}
+use Rattle.nano_json_schema.specs.FieldCodecs.{plain_names, json_fields, required_field, string_codec}
 use Rattle.test_nested_derived.specs.declared.folder.Folder.{Folder}
 use Rattle.test_nested_derived.specs.declared.folder.Folder.TheOpen.{Folder-F}
 use Rattle.test_nested_derived.specs.declared.folder.Folder.TheViews.{out-Folder}
@@ -30,7 +30,7 @@ folder_json_fields =
     fields_pair_layer (other_fields json_fields (required_field (codes "name") string_codec)) (required_layer json_fields (codes "folders") (seen_layer (λ x. x.items) (list_layer block_style block_brackets itself_layer)))
 
 abbrev pub folder_json_layer : Layer json json_grammar Folder (FolderContent Folder)
-folder_json_layer = struct_layer folder_json_fields (λ f. ascii_names refl) (λ f. refl)
+folder_json_layer = struct_layer folder_json_fields (λ f. plain_names refl) (λ f. refl)
 
 pub folder_json_means_opened : (y : Folder-F Folder)
     → folder_means_step (map-Folder Folder Meaning folder_means y)

@@ -16,7 +16,7 @@ use Rattle.nano_bin_nested.proofs.LegalLaws.{nested_agrees as bin_agrees}
 use Rattle.nano_json.specs.Codec.{Codec}
 use Rattle.nano_json_tokens.specs.Cut.{json_grammar}
 use Rattle.nano_json_tokens.proofs.JsonLaws.{json, block_brackets, tuple_style}
-use Rattle.nano_json_schema.specs.FieldCodecs.{ascii_names, json_fields, u8_codec}
+use Rattle.nano_json_schema.specs.FieldCodecs.{plain_names, json_fields, u8_codec}
 use Rattle.nano_json_schema.specs.VariantCodecs.{json_variants}
 use Rattle.test_nested_derived.specs.declared.rule.Rule.{Rule}
 use Rattle.test_nested_derived.specs.declared.rule.Rule.TheOpen.{Rule-F}
@@ -30,7 +30,7 @@ use Rattle.test_nested_derived.specs.RuleCodecs.{rule_step, rule_nested, rule_co
 
 abbrev pub rule_json_content_when : Layer json json_grammar Rule (Box Rule Global × (Box Rule Global × Option (Box Rule Global)))
 rule_json_content_when =
-    struct_layer (fields_pair_layer (required_layer json_fields (codes "condition") (seen_layer (λ x. x.value) itself_layer)) (fields_pair_layer (required_layer json_fields (codes "then") (seen_layer (λ x. x.value) itself_layer)) (optional_layer json_fields (codes "otherwise") (seen_layer (λ x. x.value) itself_layer)))) (λ f. ascii_names refl) (λ f. refl)
+    struct_layer (fields_pair_layer (required_layer json_fields (codes "condition") (seen_layer (λ x. x.value) itself_layer)) (fields_pair_layer (required_layer json_fields (codes "then") (seen_layer (λ x. x.value) itself_layer)) (optional_layer json_fields (codes "otherwise") (seen_layer (λ x. x.value) itself_layer)))) (λ f. plain_names refl) (λ f. refl)
 
 abbrev pub rule_json_variants : VariantsLayer json_variants Rule (RuleContent Rule)
 rule_json_variants =

@@ -13,7 +13,7 @@ use Rattle.nano_json.specs.Codec.{Codec}
 use Rattle.nano_json.specs.ScalarCodecs.{boolean_codec}
 use Rattle.nano_json_tokens.specs.Cut.{json_grammar}
 use Rattle.nano_json_tokens.proofs.JsonLaws.{json, block_brackets, block_style}
-use Rattle.nano_json_schema.specs.FieldCodecs.{ascii_names, json_fields, optional_field, required_field, i32_codec, string_codec}
+use Rattle.nano_json_schema.specs.FieldCodecs.{plain_names, json_fields, optional_field, required_field, i32_codec, string_codec}
 use Rattle.test_nested_derived_ron.specs.declared.comment.Comment.{Comment}
 use Rattle.test_nested_derived_ron.specs.declared.comment.Comment.TheOpen.{Comment-F}
 use Rattle.test_nested_derived_ron.specs.declared.comment.Comment.TheViews.{out-Comment}
@@ -28,7 +28,7 @@ comment_json_fields =
     fields_pair_layer (fields_pair_layer (other_fields json_fields (required_field (codes "author") string_codec)) (fields_pair_layer (other_fields json_fields (required_field (codes "text") string_codec)) (other_fields json_fields (required_field (codes "votes") i32_codec)))) (fields_pair_layer (other_fields json_fields (optional_field (codes "pinned") boolean_codec)) (fields_pair_layer (optional_layer json_fields (codes "quoted") (seen_layer (λ x. x.value) itself_layer)) (required_layer json_fields (codes "answers") (seen_layer (λ x. x.items) (list_layer block_style block_brackets itself_layer)))))
 
 abbrev pub comment_json_layer : Layer json json_grammar Comment (CommentContent Comment)
-comment_json_layer = struct_layer comment_json_fields (λ f. ascii_names refl) (λ f. refl)
+comment_json_layer = struct_layer comment_json_fields (λ f. plain_names refl) (λ f. refl)
 
 pub comment_json_means_opened : (y : Comment-F Comment)
     → comment_means_step (map-Comment Comment Meaning comment_means y)

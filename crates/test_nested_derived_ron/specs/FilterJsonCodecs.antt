@@ -14,7 +14,7 @@ use Rattle.nano_schema_levels.proofs.VariantLayersLaws.{choice_layer, last_varia
 use Rattle.nano_json.specs.Codec.{Codec}
 use Rattle.nano_json_tokens.specs.Cut.{json_grammar}
 use Rattle.nano_json_tokens.proofs.JsonLaws.{json, block_brackets, block_style, tuple_style}
-use Rattle.nano_json_schema.specs.FieldCodecs.{ascii_names, json_fields, required_field, u8_codec, string_codec}
+use Rattle.nano_json_schema.specs.FieldCodecs.{plain_names, json_fields, required_field, u8_codec, string_codec}
 use Rattle.nano_json_schema.specs.VariantCodecs.{json_variants}
 use Rattle.test_nested_derived_ron.specs.declared.filter.Filter.{Filter}
 use Rattle.test_nested_derived_ron.specs.declared.filter.Filter.TheOpen.{Filter-F}
@@ -27,7 +27,7 @@ use Rattle.test_nested_derived_ron.specs.FilterCodecs.{filter_depth, filter_dept
 
 abbrev pub filter_json_content_has : Layer json json_grammar Filter (String Global × Option (Box Filter Global))
 filter_json_content_has =
-    struct_layer (fields_pair_layer (other_fields json_fields (required_field (codes "field") string_codec)) (optional_layer json_fields (codes "and") (seen_layer (λ x. x.value) itself_layer))) (λ f. ascii_names refl) (λ f. refl)
+    struct_layer (fields_pair_layer (other_fields json_fields (required_field (codes "field") string_codec)) (optional_layer json_fields (codes "and") (seen_layer (λ x. x.value) itself_layer))) (λ f. plain_names refl) (λ f. refl)
 
 abbrev pub filter_json_variants : VariantsLayer json_variants Filter (FilterContent Filter)
 filter_json_variants =

@@ -16,7 +16,7 @@ use Rattle.nano_bin_nested.proofs.LegalLaws.{nested_agrees as bin_agrees}
 use Rattle.nano_json.specs.Codec.{Codec}
 use Rattle.nano_json_tokens.specs.Cut.{json_grammar}
 use Rattle.nano_json_tokens.proofs.JsonLaws.{json, curly_brackets, curly_style, entry_style}
-use Rattle.nano_json_schema.specs.FieldCodecs.{ascii_names, json_fields, required_field, string_codec}
+use Rattle.nano_json_schema.specs.FieldCodecs.{plain_names, json_fields, required_field, string_codec}
 use Rattle.test_nested_derived_ron.specs.declared.menu.Menu.{Menu}
 use Rattle.test_nested_derived_ron.specs.declared.menu.Menu.TheOpen.{Menu-F}
 use Rattle.test_nested_derived_ron.specs.declared.menu.Menu.TheViews.{out-Menu}
@@ -32,7 +32,7 @@ menu_json_fields =
     fields_pair_layer (other_fields json_fields (required_field (codes "title") string_codec)) (required_layer json_fields (codes "entries") (seen_layer (λ x. x.entries) (ordered_map_layer curly_style curly_brackets entry_style (λ h. h) texts string_codec string_cmp (follows_order string_cmp (λ x. text (string_bytes x)) texts (texts_follow (λ x. string_bytes x))) itself_layer)))
 
 abbrev pub menu_json_layer : Layer json json_grammar Menu (MenuContent Menu)
-menu_json_layer = struct_layer menu_json_fields (λ f. ascii_names refl) (λ f. refl)
+menu_json_layer = struct_layer menu_json_fields (λ f. plain_names refl) (λ f. refl)
 
 pub menu_json_means_opened : (y : Menu-F Menu)
     → menu_means_step (map-Menu Menu Meaning menu_means y)

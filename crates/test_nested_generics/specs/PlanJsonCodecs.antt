@@ -17,7 +17,7 @@ use Rattle.nano_json.specs.Codec.{Codec, codec_as}
 use Rattle.nano_json.specs.ContainerCodecs.{list_codec, option_codec}
 use Rattle.nano_json_tokens.specs.Cut.{json_grammar}
 use Rattle.nano_json_tokens.proofs.JsonLaws.{json, block_brackets, block_style, tuple_style}
-use Rattle.nano_json_schema.specs.FieldCodecs.{ascii_names, json_fields, required_field}
+use Rattle.nano_json_schema.specs.FieldCodecs.{plain_names, json_fields, required_field}
 use Rattle.nano_json_schema.specs.VariantCodecs.{json_variants}
 use Rattle.test_nested_generics.specs.declared.plan.Plan.{Plan}
 use Rattle.test_nested_generics.specs.declared.plan.Plan.TheOpen.{Plan-F}
@@ -34,7 +34,7 @@ module _ {T : Type 0} (t_json : Codec T) where
 
   abbrev pub plan_json_content_step : Layer json json_grammar (Plan T) (T × Vec (Plan T) Global)
   plan_json_content_step =
-      struct_layer (fields_pair_layer (other_fields json_fields (required_field (codes "item") t_json)) (required_layer json_fields (codes "next") (seen_layer (λ x. x.items) (list_layer block_style block_brackets itself_layer)))) (λ f. ascii_names refl) (λ f. refl)
+      struct_layer (fields_pair_layer (other_fields json_fields (required_field (codes "item") t_json)) (required_layer json_fields (codes "next") (seen_layer (λ x. x.items) (list_layer block_style block_brackets itself_layer)))) (λ f. plain_names refl) (λ f. refl)
 
   abbrev pub plan_json_variants : VariantsLayer json_variants (Plan T) (PlanContent T (Plan T))
   plan_json_variants =

@@ -18,7 +18,7 @@ use Rattle.nano_json.specs.Codec.{Codec, codec_as}
 use Rattle.nano_json.specs.ContainerCodecs.{ordered_map_codec}
 use Rattle.nano_json_tokens.specs.Cut.{json_grammar}
 use Rattle.nano_json_tokens.proofs.JsonLaws.{json, block_brackets, block_style}
-use Rattle.nano_json_schema.specs.FieldCodecs.{ascii_names, json_fields, optional_field, required_field, string_codec}
+use Rattle.nano_json_schema.specs.FieldCodecs.{plain_names, json_fields, optional_field, required_field, string_codec}
 use Rattle.test_nested_generics.specs.declared.shelf.Shelf.{Shelf}
 use Rattle.test_nested_generics.specs.declared.shelf.Shelf.TheOpen.{Shelf-F}
 use Rattle.test_nested_generics.specs.declared.shelf.Shelf.TheViews.{out-Shelf}
@@ -37,7 +37,7 @@ module _ {K V : Type 0} (k_json : Codec K) (v_json : Codec V) where
       fields_pair_layer (fields_pair_layer (other_fields json_fields (required_field (codes "name") k_json)) (other_fields json_fields (required_field (codes "values") (codec_as (λ (x : BTreeMap (String Global) V). x.entries) (ordered_map_codec texts string_cmp string_codec v_json))))) (fields_pair_layer (other_fields json_fields (optional_field (codes "best") v_json)) (required_layer json_fields (codes "inner") (seen_layer (λ x. x.items) (list_layer block_style block_brackets itself_layer))))
 
   abbrev pub shelf_json_layer : Layer json json_grammar (Shelf K V) (ShelfContent K V (Shelf K V))
-  shelf_json_layer = struct_layer shelf_json_fields (λ f. ascii_names refl) (λ f. refl)
+  shelf_json_layer = struct_layer shelf_json_fields (λ f. plain_names refl) (λ f. refl)
 
   pub shelf_json_means_opened : (y : Shelf-F K V (Shelf K V))
       → (shelf_means_step k_json.canonical.means v_json.canonical.means) (map-Shelf K V (Shelf K V) Meaning (shelf_means k_json.canonical.means v_json.canonical.means) y)

@@ -17,7 +17,7 @@ use Rattle.nano_bin_nested.proofs.LegalLaws.{nested_agrees as bin_agrees}
 use Rattle.nano_json.specs.Codec.{Codec}
 use Rattle.nano_json_tokens.specs.Cut.{json_grammar}
 use Rattle.nano_json_tokens.proofs.JsonLaws.{json, block_brackets, block_style}
-use Rattle.nano_json_schema.specs.FieldCodecs.{ascii_names, json_fields, required_field}
+use Rattle.nano_json_schema.specs.FieldCodecs.{plain_names, json_fields, required_field}
 use Rattle.nano_json_schema.specs.VariantCodecs.{json_variants}
 use Rattle.test_nested_parts.specs.contracts.camp.derived.WeatherJsonCodec.TheImpl.{ghosts as weather_json}
 use Rattle.test_nested_parts.specs.declared.camp.Camp.{Camp}
@@ -47,7 +47,7 @@ camp_json_fields =
     fields_pair_layer (other_fields json_fields (required_field (codes "weather") weather_part)) (required_layer json_fields (codes "camps") (seen_layer (λ x. x.items) (list_layer block_style block_brackets itself_layer)))
 
 abbrev pub camp_json_layer : Layer json json_grammar Camp (CampContent Camp)
-camp_json_layer = struct_layer camp_json_fields (λ f. ascii_names refl) (λ f. refl)
+camp_json_layer = struct_layer camp_json_fields (λ f. plain_names refl) (λ f. refl)
 
 pub camp_json_means_opened : (y : Camp-F Camp)
     → camp_means_step (map-Camp Camp Meaning camp_means y)
@@ -88,7 +88,7 @@ camp_json = legal_as (limited camp_json_nested 128) camp_json_agrees
 
 abbrev pub route_json_content_step : Layer json json_grammar Route (Weather × Box Route Global)
 route_json_content_step =
-    struct_layer (fields_pair_layer (other_fields json_fields (required_field (codes "weather") weather_part)) (required_layer json_fields (codes "rest") (seen_layer (λ x. x.value) itself_layer))) (λ f. ascii_names refl) (λ f. refl)
+    struct_layer (fields_pair_layer (other_fields json_fields (required_field (codes "weather") weather_part)) (required_layer json_fields (codes "rest") (seen_layer (λ x. x.value) itself_layer))) (λ f. plain_names refl) (λ f. refl)
 
 abbrev pub route_json_variants : VariantsLayer json_variants Route (RouteContent Route)
 route_json_variants =

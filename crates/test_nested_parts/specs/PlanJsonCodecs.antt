@@ -16,7 +16,7 @@ use Rattle.nano_bin_nested.proofs.LegalLaws.{nested_agrees as bin_agrees}
 use Rattle.nano_json.specs.Codec.{Codec}
 use Rattle.nano_json_tokens.specs.Cut.{json_grammar}
 use Rattle.nano_json_tokens.proofs.JsonLaws.{json, block_brackets, block_style, tuple_style}
-use Rattle.nano_json_schema.specs.FieldCodecs.{ascii_names, json_fields, optional_field}
+use Rattle.nano_json_schema.specs.FieldCodecs.{plain_names, json_fields, optional_field}
 use Rattle.nano_json_schema.specs.VariantCodecs.{json_variants}
 use Rattle.test_nested_parts.specs.contracts.scene.derived.SceneJsonCodec.TheImpl.{ghosts as scene_json}
 use Rattle.test_nested_parts.specs.declared.plan.Plan.{Plan}
@@ -36,7 +36,7 @@ scene_part = scene_json.json
 
 abbrev pub plan_json_content_choose : Layer json json_grammar Plan (Option Scene × Vec Plan Global)
 plan_json_content_choose =
-    struct_layer (fields_pair_layer (other_fields json_fields (optional_field (codes "at") scene_part)) (required_layer json_fields (codes "plans") (seen_layer (λ x. x.items) (list_layer block_style block_brackets itself_layer)))) (λ f. ascii_names refl) (λ f. refl)
+    struct_layer (fields_pair_layer (other_fields json_fields (optional_field (codes "at") scene_part)) (required_layer json_fields (codes "plans") (seen_layer (λ x. x.items) (list_layer block_style block_brackets itself_layer)))) (λ f. plain_names refl) (λ f. refl)
 
 abbrev pub plan_json_variants : VariantsLayer json_variants Plan (PlanContent Plan)
 plan_json_variants =

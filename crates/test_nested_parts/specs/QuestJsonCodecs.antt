@@ -19,7 +19,7 @@ use Rattle.nano_json.specs.Codec.{Codec, codec_as}
 use Rattle.nano_json.specs.ContainerCodecs.{list_codec, ordered_map_codec}
 use Rattle.nano_json_tokens.specs.Cut.{json_grammar}
 use Rattle.nano_json_tokens.proofs.JsonLaws.{json, block_brackets, block_style, tuple_style}
-use Rattle.nano_json_schema.specs.FieldCodecs.{ascii_names, json_fields, optional_field, required_field, string_codec}
+use Rattle.nano_json_schema.specs.FieldCodecs.{plain_names, json_fields, optional_field, required_field, string_codec}
 use Rattle.nano_json_schema.specs.VariantCodecs.{json_variants}
 use Rattle.test_nested_parts.specs.contracts.mode.derived.ModeJsonCodec.TheImpl.{ghosts as mode_json}
 use Rattle.test_nested_parts.specs.contracts.item.derived.ItemJsonCodec.TheImpl.{ghosts as item_json}
@@ -45,7 +45,7 @@ item_part = item_json.json
 
 abbrev pub quest_json_content_all : Layer json json_grammar Quest (Vec Quest Global × (Vec Mode Global × Option Mode))
 quest_json_content_all =
-    struct_layer (fields_pair_layer (required_layer json_fields (codes "quests") (seen_layer (λ x. x.items) (list_layer block_style block_brackets itself_layer))) (fields_pair_layer (other_fields json_fields (required_field (codes "modes") (codec_as (λ (x : Vec Mode Global). x.items) (list_codec mode_part)))) (other_fields json_fields (optional_field (codes "mode") mode_part)))) (λ f. ascii_names refl) (λ f. refl)
+    struct_layer (fields_pair_layer (required_layer json_fields (codes "quests") (seen_layer (λ x. x.items) (list_layer block_style block_brackets itself_layer))) (fields_pair_layer (other_fields json_fields (required_field (codes "modes") (codec_as (λ (x : Vec Mode Global). x.items) (list_codec mode_part)))) (other_fields json_fields (optional_field (codes "mode") mode_part)))) (λ f. plain_names refl) (λ f. refl)
 
 abbrev pub quest_json_variants : VariantsLayer json_variants Quest (QuestContent Quest)
 quest_json_variants =

@@ -14,7 +14,7 @@ use Rattle.nano_bin_nested.proofs.LegalLaws.{nested_agrees as bin_agrees}
 use Rattle.nano_json.specs.Codec.{Codec}
 use Rattle.nano_json_tokens.specs.Cut.{json_grammar}
 use Rattle.nano_json_tokens.proofs.JsonLaws.{json, block_brackets, block_style}
-use Rattle.nano_json_schema.specs.FieldCodecs.{ascii_names, json_fields, required_field}
+use Rattle.nano_json_schema.specs.FieldCodecs.{plain_names, json_fields, required_field}
 use Rattle.test_nested_parts.specs.contracts.mode.derived.ModeJsonCodec.TheImpl.{ghosts as mode_json}
 use Rattle.test_nested_parts.specs.declared.scene.Scene.{Scene}
 use Rattle.test_nested_parts.specs.declared.scene.Scene.TheOpen.{Scene-F}
@@ -36,7 +36,7 @@ scene_json_fields =
     fields_pair_layer (other_fields json_fields (required_field (codes "mode") mode_part)) (required_layer json_fields (codes "scenes") (seen_layer (λ x. x.items) (list_layer block_style block_brackets itself_layer)))
 
 abbrev pub scene_json_layer : Layer json json_grammar Scene (SceneContent Scene)
-scene_json_layer = struct_layer scene_json_fields (λ f. ascii_names refl) (λ f. refl)
+scene_json_layer = struct_layer scene_json_fields (λ f. plain_names refl) (λ f. refl)
 
 pub scene_json_means_opened : (y : Scene-F Scene)
     → scene_means_step (map-Scene Scene Meaning scene_means y)

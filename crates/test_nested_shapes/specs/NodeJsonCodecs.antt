@@ -24,7 +24,7 @@ use Rattle.nano_json.specs.Codec.{Codec, codec_as}
 use Rattle.nano_json.specs.ContainerCodecs.{array_codec, list_codec as linked_codec, map_codec, ordered_codec, pair_codec, set_codec}
 use Rattle.nano_json_tokens.specs.Cut.{json_grammar}
 use Rattle.nano_json_tokens.proofs.JsonLaws.{json, block_brackets, block_style, tuple_style}
-use Rattle.nano_json_schema.specs.FieldCodecs.{ascii_names, json_fields, required_field, u8_codec, u16_codec, u32_codec, i32_codec, string_codec}
+use Rattle.nano_json_schema.specs.FieldCodecs.{plain_names, json_fields, required_field, u8_codec, u16_codec, u32_codec, i32_codec, string_codec}
 use Rattle.nano_json_schema.specs.VariantCodecs.{json_variants}
 use Rattle.test_nested_shapes.specs.declared.node.Node.{Node}
 use Rattle.test_nested_shapes.specs.declared.node.Node.TheOpen.{Node-F}
@@ -48,7 +48,7 @@ node_json_fields =
     fields_pair_layer (fields_pair_layer (other_fields json_fields (required_field (codes "name") string_codec)) (fields_pair_layer (other_fields json_fields (required_field (codes "at") (array_codec 3 i32_codec))) (other_fields json_fields (required_field (codes "size") (pair_codec u32_codec u32_codec))))) (fields_pair_layer (other_fields json_fields (required_field (codes "tags") (codec_as (λ (x : BTreeSet (String Global)). x.keys) (ordered_codec texts string_cmp string_codec)))) (fields_pair_layer (other_fields json_fields (required_field (codes "effects") (codec_as (λ (x : HashMap (String Global) ℕ (BuildHasherDefault FoldHasher)). x.entries) (map_codec texts string_codec u32_codec)))) (required_layer json_fields (codes "children") (seen_layer (λ x. x.items) (list_layer block_style block_brackets itself_layer)))))
 
 abbrev pub node_json_layer : Layer json json_grammar Node (NodeContent Node)
-node_json_layer = struct_layer node_json_fields (λ f. ascii_names refl) (λ f. refl)
+node_json_layer = struct_layer node_json_fields (λ f. plain_names refl) (λ f. refl)
 
 pub node_json_means_opened : (y : Node-F Node)
     → node_means_step (map-Node Node Meaning node_means y)

@@ -19,7 +19,7 @@ use Rattle.nano_json.specs.Codec.{Codec}
 use Rattle.nano_json.specs.ScalarCodecs.{boolean_codec}
 use Rattle.nano_json_tokens.specs.Cut.{json_grammar}
 use Rattle.nano_json_tokens.proofs.JsonLaws.{json, block_brackets, block_style, tuple_style}
-use Rattle.nano_json_schema.specs.FieldCodecs.{ascii_names, json_fields, required_field, u32_codec, i64_codec, string_codec}
+use Rattle.nano_json_schema.specs.FieldCodecs.{plain_names, json_fields, required_field, u32_codec, i64_codec, string_codec}
 use Rattle.nano_json_schema.specs.VariantCodecs.{json_variants}
 use Rattle.test_nested_shapes.specs.declared.term.Argument.{Argument}
 use Rattle.test_nested_shapes.specs.declared.term.Argument.TheOpen.{Argument-F}
@@ -39,7 +39,7 @@ use Rattle.test_nested_shapes.specs.TermCodecs.{term_step, term_nested, term_cod
 
 abbrev pub argument_json_content_named : Layer json json_grammar Term (String Global × Option (Box Term Global))
 argument_json_content_named =
-    struct_layer (fields_pair_layer (other_fields json_fields (required_field (codes "name") string_codec)) (optional_layer json_fields (codes "value") (seen_layer (λ x. x.value) itself_layer))) (λ f. ascii_names refl) (λ f. refl)
+    struct_layer (fields_pair_layer (other_fields json_fields (required_field (codes "name") string_codec)) (optional_layer json_fields (codes "value") (seen_layer (λ x. x.value) itself_layer))) (λ f. plain_names refl) (λ f. refl)
 
 abbrev pub argument_json_variants : VariantsLayer json_variants Term (ArgumentContent Term)
 argument_json_variants =

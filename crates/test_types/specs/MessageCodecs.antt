@@ -5,7 +5,7 @@ use Rattle.std.specs.Prelude.{ℕ, ℤ, List, [], ◌∷◌, String, codes, refl
 use Rattle.std.specs.Global.{Global}
 use Rattle.std.proofs.Common.{inl, inr}
 use Rattle.nano_json.specs.Codec.{Codec, codec_as}
-use Rattle.nano_json_schema.specs.FieldCodecs.{required_field, fields_pair, ascii_names}
+use Rattle.nano_json_schema.specs.FieldCodecs.{required_field, fields_pair, plain_names}
 use Rattle.nano_json_schema.specs.FieldCodecs.{fields_codec, i32_codec, u32_codec, u64_codec}
 use Rattle.nano_json_schema.specs.FieldCodecs.{string_codec, pair_codec, array_codec}
 use Rattle.nano_json_schema.specs.VariantCodecs.{JsonVariants, body}
@@ -23,7 +23,7 @@ waited = array_codec 1 u64_codec
 abbrev pub said : Codec (String Global × ℕ)
 said =
     fields_codec (fields_pair (required_field (codes "text") string_codec) (required_field (codes "times") u32_codec))
-    (ascii_names refl) refl
+    (plain_names refl) refl
 
 abbrev pub variants : JsonVariants
 variants =
