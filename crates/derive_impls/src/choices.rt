@@ -81,14 +81,14 @@ fn append_content<'a>(
         Content::Parts(parts) => append_parts(sheet, held.as_str(), parts)?,
         Content::Fields(fields) => {
             let fields = row_fields(alloc, fields)?;
-            let leaves = append_fields(sheet, target, owner.as_str(), &fields, None)?;
+            let leaves = append_fields(sheet, owner.as_str(), &fields, None)?;
             append_row(sheet, held.as_str(), &leaves)?;
         }
     }
     format!(in alloc; "{kind}<{held}>")
 }
 
-/// The schema of a struct variant of which no field is read and written.
+/// The schema of a struct variant of which no field stands in the schema.
 const EMPTY: &str = "nano_schema::Struct<nano_schema::Unit>";
 
 /// Appends the type of the parts of a tuple variant.

@@ -2,8 +2,6 @@
 
 /// A format.
 pub(crate) struct Codec {
-    /// The comment above its impls.
-    pub(crate) heading: &'static str,
     /// Its name in those of modules and functions.
     pub(crate) module: &'static str,
     /// Its name in those of traits.
@@ -25,7 +23,6 @@ pub(crate) struct Codec {
 
 /// Bytes.
 pub(crate) const BIN: Codec = Codec {
-    heading: "bytes",
     module: "bin",
     name: "Bin",
     proof: "",
@@ -38,7 +35,6 @@ pub(crate) const BIN: Codec = Codec {
 
 /// JSON.
 pub(crate) const JSON: Codec = Codec {
-    heading: "JSON",
     module: "json",
     name: "Json",
     proof: " refl",
@@ -51,7 +47,6 @@ pub(crate) const JSON: Codec = Codec {
 
 /// RON.
 pub(crate) const RON: Codec = Codec {
-    heading: "RON",
     module: "ron",
     name: "Ron",
     proof: " refl",
@@ -64,8 +59,6 @@ pub(crate) const RON: Codec = Codec {
 
 /// The impl that says how values are encoded.
 pub(crate) const DEFINITION: &str = "
-// ---- $HEADING
-
 impl$BOUNDS nano_$MODULE_schema::$NAMECodec for $FULL$OPEN
     ghost $MODULE = { $BODY };
 

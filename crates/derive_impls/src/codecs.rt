@@ -112,7 +112,6 @@ fn append_impl<'a>(
     holes.put("PROOF", codec.proof);
     holes.put("CHOSEN", codec.chosen);
     holes.put("ARGUMENTS", arguments);
-    holes.put("HEADING", codec.heading);
     holes.put("AGREES", target.agreement.agrees.as_str());
     holes.put("DECODABLE", target.agreement.decodable.as_str());
     let body = holes.fill(body)?;

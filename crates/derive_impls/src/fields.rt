@@ -4,29 +4,29 @@ use crate::defaults::append_default;
 use crate::labels::append_labels;
 use crate::rows::{Around, Leaf};
 use crate::sheet::Sheet;
-use crate::target::Target;
 use crate::types::{optional_part, type_text};
-use derive_syntax::{Case, Field, Holes, field_name};
+use derive_syntax::{Case, Field, Holes, field_name, stands_in_row};
 use std::alloc::{AllocError, Global};
 
-/// The fields that are read and written.
+/// The fields that stand in the schema: those that are read and written, and those that are made as
+/// defaults of the schema.
 pub(crate) fn row_fields<'a>(
     alloc: Global,
     fields: &[Field<'a>],
 ) -> Result<Vec<Field<'a>>, AllocError> {
     let mut in_row = Vec::new(alloc);
     for field in fields {
-        if field.attributes.skip.is_none() {
+        if stands_in_row(*field) {
             in_row.push(*field)?;
         }
     }
     Ok(in_row)
 }
 
-/// Whether none of the fields is read and written.
+/// Whether none of the fields stands in the schema.
 pub(crate) fn are_skipped<'a>(fields: &[Field<'a>]) -> bool {
     for field in fields {
-        if field.attributes.skip.is_none() {
+        if stands_in_row(*field) {
             return false;
         }
     }
@@ -37,7 +37,6 @@ pub(crate) fn are_skipped<'a>(fields: &[Field<'a>]) -> bool {
 /// in a schema.
 pub(crate) fn append_fields<'a>(
     sheet: &mut Sheet,
-    target: &Target<'a>,
     owner: &str,
     fields: &[Field<'a>],
     case: Option<Case>,
@@ -46,10 +45,14 @@ pub(crate) fn append_fields<'a>(
     let mut labels = append_labels(sheet, owner, &names)?.into_iter();
     let mut leaves = Vec::new(sheet.alloc);
     for field in fields {
+        if field.attributes.skip.is_some() {
+            leaves.push(skipped_field(sheet, owner, *field)?)?;
+            continue;
+        }
         let Some(label) = labels.next() else {
             break;
         };
-        let mut leaf = schema_field(sheet, target, owner, *field, label)?;
+        let mut leaf = schema_field(sheet, owner, *field, label)?;
         for _alias in &field.attributes.aliases(sheet.alloc)? {
             if let Some(label) = labels.next() {
                 let open = sheet.short("nano_schema::Aliased<");
@@ -61,7 +64,7 @@ pub(crate) fn append_fields<'a>(
     Ok(leaves)
 }
 
-/// The names of fields, each before its aliases.
+/// The names of fields that are read, each before its aliases.
 fn names_of<'a>(
     alloc: Global,
     fields: &[Field<'a>],
@@ -69,7 +72,9 @@ fn names_of<'a>(
 ) -> Result<Vec<String>, AllocError> {
     let mut names = Vec::new(alloc);
     for field in fields {
-        names.push(field_name(alloc, *field, case)?)?;
+        if field.attributes.skip.is_none() {
+            names.push(field_name(alloc, *field, case)?)?;
+        }
         for alias in &field.attributes.aliases(alloc)? {
             names.push(String::from_str(alloc, alias.quoted())?)?;
         }
@@ -80,7 +85,6 @@ fn names_of<'a>(
 /// A field as it stands in a schema, after its default, if it has one.
 fn schema_field<'a>(
     sheet: &mut Sheet,
-    target: &Target<'a>,
     owner: &str,
     field: Field<'a>,
     label: String,
@@ -97,10 +101,25 @@ fn schema_field<'a>(
     let item = sheet.made(type_text(alloc, part));
     sheet.push(&mut texts, item);
     if field.attributes.default.is_some() {
-        texts.push(append_default(sheet, target, owner, field)?)?;
+        texts.push(append_default(sheet, owner, field)?)?;
     }
     Ok(Leaf {
         open,
+        texts,
+        close: ">",
+        around: Vec::new(alloc),
+    })
+}
+
+/// A field that is neither written nor read, as it stands in a schema, after its default.
+fn skipped_field<'a>(sheet: &mut Sheet, owner: &str, field: Field<'a>) -> Result<Leaf, AllocError> {
+    let alloc = sheet.alloc;
+    let mut texts = Vec::new(alloc);
+    let of = sheet.made(type_text(alloc, field.of));
+    sheet.push(&mut texts, of);
+    texts.push(append_default(sheet, owner, field)?)?;
+    Ok(Leaf {
+        open: sheet.short("nano_schema::Skipped<"),
         texts,
         close: ">",
         around: Vec::new(alloc),

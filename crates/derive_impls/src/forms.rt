@@ -115,6 +115,22 @@ pub(crate) const TRANSPARENT: Form = Form {
     is_by_codec: false,
 };
 
+/// A struct of more parts than a tuple of Rust's has here, by its first part and the others. Bytes
+/// have no brackets: they are those of its parts.
+pub(crate) const WIDE: Form = Form {
+    imports: [
+        &[],
+        &["ghost use Rattle.nano_json_schema.specs.Structs.{tuple_json_of};"],
+        &["ghost use Rattle.nano_ron_schema.specs.Structs.{tuple_ron_of};"],
+    ],
+    term: "tuple_$MODULE_of ⟦<$FULL as nano_schema::StructSchema>⟧.view \
+        ⟦<$ROW as nano_$MODULE_schema::$NAMEParts>⟧.codec",
+    write: "        nano_$MODULE_schema::write_tuple_$MODULE::<Self, $ROW>(self, $ARGUMENTS)",
+    read: "        nano_$MODULE_schema::read_tuple_$MODULE::<Self, $ROW>($ARGUMENTS)",
+    taker: "",
+    is_by_codec: true,
+};
+
 /// A struct of several parts, which is their tuple in a text. What writes it is given.
 pub(crate) fn tupled(write: &str) -> Form<'_> {
     Form {

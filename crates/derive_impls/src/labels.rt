@@ -1,5 +1,6 @@
 //! The names of fields and variants, each as a type.
 
+use crate::layout::{COLUMNS, start_line, width};
 use crate::names::in_type_name;
 use crate::sheet::Sheet;
 use derive_syntax::{Case, Holes, Variant, variant_name};
@@ -21,10 +22,10 @@ pub fn variant_names<'a>(
 }
 
 const LABEL: &str = "
-struct $LABEL {}
+pub struct $LABEL {}
 
 impl nano_schema::Label for $LABEL {
-    ghost label = { codes \"$TEXT\" };
+    ghost label = { $CODES };
 
     fn text() -> &'static str {
         \"$TEXT\"
@@ -32,15 +33,13 @@ impl nano_schema::Label for $LABEL {
 }";
 
 const LABELS: &str = "
-struct $LABEL<const I: usize> {}
+pub struct $LABEL<const I: usize> {}
 
 impl<const I: usize> nano_schema::Label for $LABEL<I> {
     ghost label = { $CASES };
 
     fn text() -> &'static str {
-        match I {
-$ARMS
-        }
+        nano_schema::name_of!(I, $ARMS)
     }
 }";
 
@@ -70,9 +69,10 @@ pub fn append_labels(
 
 /// Appends the type that stands for a name.
 fn append_label(sheet: &mut Sheet, label: &str, name: &str) {
-    sheet.import("ghost use Rattle.std.specs.Prelude.{codes};");
+    let codes = codes_of(sheet, name);
     let mut holes = Holes::new(sheet.alloc);
     holes.put("TEXT", name);
+    holes.put("CODES", codes.as_str());
     holes.put("LABEL", label);
     sheet.write(LABEL, &holes);
 }
@@ -82,40 +82,98 @@ fn append_numbered(sheet: &mut Sheet, label: &str, names: &[String]) {
     sheet.import("ghost use Rattle.std.specs.Prelude.{codes};");
     sheet.import("ghost use Rattle.std.specs.Prelude.{◌==◌};");
     sheet.import("ghost use Rattle.std.specs.Prelude.{if◌then◌else◌};");
+    let cases = cases(sheet, names);
+    let arms = arms(sheet, names);
     let mut holes = Holes::new(sheet.alloc);
-    holes.put_made("CASES", cases(sheet.alloc, names));
-    holes.put_made("ARMS", arms(sheet.alloc, names));
+    holes.put("CASES", cases.as_str());
+    holes.put("ARMS", arms.as_str());
     holes.put("LABEL", label);
     sheet.write(LABELS, &holes);
 }
 
-/// The names in a ghost term, each on a line. The last one stands for every later number, too.
-fn cases(alloc: Global, names: &[String]) -> Result<String, AllocError> {
-    let mut text = String::new(alloc);
-    let mut before = "";
-    for (i, name) in names.iter().enumerate() {
-        text.push_str(before)?;
-        if i.saturating_add(1) < names.len() {
-            text.push_str(format!(in alloc; "if I == {i} then ")?.as_str())?;
-        }
-        text.push_str(format!(in alloc; "codes \"{name}\"")?.as_str())?;
-        before = "\n        else ";
+/// The bytes of a name in a ghost term.
+fn codes_of(sheet: &mut Sheet, name: &str) -> String {
+    let alloc = sheet.alloc;
+    sheet.import("ghost use Rattle.std.specs.Prelude.{codes};");
+    if name.is_ascii() {
+        return sheet.made(format!(in alloc; "codes \"{name}\""));
     }
-    Ok(text)
+    sheet.import("ghost use Rattle.std.specs.Prelude.{encode_utf8_all};");
+    sheet.made(format!(in alloc; "encode_utf8_all (codes \"{name}\")"))
 }
 
-/// The names in the arms of a `match`.
-fn arms(alloc: Global, names: &[String]) -> Result<String, AllocError> {
-    let mut text = String::new(alloc);
+/// The names in a ghost term, on each line as many as it has space for. The last one stands for every
+/// later number, too.
+fn cases(sheet: &mut Sheet, names: &[String]) -> String {
+    let alloc = sheet.alloc;
+    let mut line = Line::after(alloc, "    ghost label = { ", 8);
+    let mut before = "";
+    for (i, name) in names.iter().enumerate() {
+        let codes = codes_of(sheet, name.as_str());
+        let case = if i.saturating_add(1) < names.len() {
+            format!(in alloc; "{before}if I == {i} then {codes}")
+        } else {
+            format!(in alloc; "{before}{codes}")
+        };
+        let case = sheet.made(case);
+        line.add(sheet, case.as_str());
+        before = "else ";
+    }
+    line.text
+}
+
+/// The names in the arms of the macro, on each line as many as it has space for.
+fn arms(sheet: &mut Sheet, names: &[String]) -> String {
+    let alloc = sheet.alloc;
+    let mut line = Line::after(alloc, "        nano_schema::name_of!(I, ", 12);
     for (i, name) in names.iter().enumerate() {
         let arm = if i.saturating_add(1) < names.len() {
-            format!(in alloc; "            {i} => \"{name}\",\n")?
+            format!(in alloc; "{i} => \"{name}\",")
         } else {
-            format!(in alloc; "            _ => \"{name}\",")?
+            format!(in alloc; "_ => \"{name}\"")
         };
-        text.push_str(arm.as_str())?;
+        let arm = sheet.made(arm);
+        line.add(sheet, arm.as_str());
     }
-    Ok(text)
+    line.text
+}
+
+/// Parts of a text on lines, each of which has as many as it has space for.
+#[derive(Drop)]
+struct Line {
+    /// The lines so far, without what stands before the first part.
+    text: String,
+    /// How many columns the last of them has.
+    used: usize,
+    /// How far each but the first is indented.
+    indent: usize,
+}
+
+impl Line {
+    /// No parts, after this on their first line.
+    fn after(alloc: Global, before: &str, indent: usize) -> Line {
+        Line {
+            text: String::new(alloc),
+            used: width(before),
+            indent,
+        }
+    }
+
+    /// Adds a part. What closes the text has three columns on its last line.
+    fn add(&mut self, sheet: &mut Sheet, part: &str) {
+        let whole = self.used.saturating_add(width(part)).saturating_add(1);
+        if self.text.is_empty() {
+            self.used = whole;
+        } else if whole.saturating_add(3) <= COLUMNS {
+            sheet.add(&mut self.text, " ");
+            self.used = whole;
+        } else {
+            let step = start_line(&mut self.text, self.indent);
+            sheet.note(step);
+            self.used = self.indent.saturating_add(width(part));
+        }
+        sheet.add(&mut self.text, part);
+    }
 }
 
 /// A free name for something of an owner.

@@ -1,6 +1,6 @@
 //! The type parameters that types name.
 
-use derive_syntax::{Content, Field, Shape, Token, Type, Variant};
+use derive_syntax::{Content, Field, Shape, Token, Type, Variant, stands_in_row};
 use std::alloc::{AllocError, Global};
 
 /// Those of the parameters that stand in one of the types, in their order.
@@ -28,21 +28,21 @@ fn is_named<'a>(parameter: Token<'a>, types: &[Type<'a>]) -> bool {
     false
 }
 
-/// The types of the fields that are read and written.
+/// The types of the fields that stand in the schema.
 pub(crate) fn encoded_types<'a>(
     alloc: Global,
     fields: &[Field<'a>],
 ) -> Result<Vec<Type<'a>>, AllocError> {
     let mut types = Vec::new(alloc);
     for field in fields {
-        if field.attributes.skip.is_none() {
+        if stands_in_row(*field) {
             types.push(field.of)?;
         }
     }
     Ok(types)
 }
 
-/// The types of what a variant holds, as far as it is read and written.
+/// The types of what a variant holds, as far as it stands in the schema.
 pub(crate) fn content_types<'a>(
     alloc: Global,
     content: &Content<'a>,
@@ -54,7 +54,7 @@ pub(crate) fn content_types<'a>(
     }
 }
 
-/// The types of what a definition is made of, as far as they are read and written.
+/// The types of what a definition is made of, as far as they stand in the schema.
 pub(crate) fn shape_types<'a>(
     alloc: Global,
     shape: &Shape<'a>,
@@ -66,7 +66,7 @@ pub(crate) fn shape_types<'a>(
     }
 }
 
-/// The types of what variants hold, as far as they are read and written.
+/// The types of what variants hold, as far as they stand in the schema.
 fn variant_types<'a>(alloc: Global, variants: &[Variant<'a>]) -> Result<Vec<Type<'a>>, AllocError> {
     let mut types = Vec::new(alloc);
     for variant in variants {

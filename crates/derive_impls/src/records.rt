@@ -20,33 +20,37 @@ pub(crate) fn append_record<'a>(
     fields: &[Field<'a>],
 ) -> Result<(), AllocError> {
     let in_row = row_fields(sheet.alloc, fields)?;
-    let leaves = append_fields(
-        sheet,
-        target,
-        target.name.text,
-        &in_row,
-        target.attributes.case,
-    )?;
+    let leaves = append_fields(sheet, target.name.text, &in_row, target.attributes.case)?;
     append_row(sheet, target.row.as_str(), &leaves)?;
-    append_seen(sheet, target, &seen(sheet.alloc, target, fields, &in_row)?)?;
+    let seen = seen(sheet, target, fields, &in_row)?;
+    append_seen(sheet, target, &seen)?;
     append_codecs(sheet, target, &RECORD, &RECORD)
 }
 
 /// The struct as the values of the fields that stand in its row.
 fn seen<'a>(
-    alloc: Global,
+    sheet: &mut Sheet,
     target: &Target<'a>,
     fields: &[Field<'a>],
     in_row: &[Field<'a>],
 ) -> Result<Seen, AllocError> {
+    let alloc = sheet.alloc;
     Ok(Seen {
-        types: laid(alloc, in_row, "$TYPE", Items::Types, (4, 18))?,
-        refs: laid(alloc, in_row, "&'a $TYPE", Items::Types, (4, 16))?,
+        types: values_of_row(sheet, target)?,
         view: laid_pairs(alloc, &field_texts(alloc, in_row, "x.$NAME")?, 4, (24, 3))?,
         taken: fields_taken(alloc, in_row, "values", 8)?,
         made: made(alloc, target, fields)?.laid,
         borrowed: laid(alloc, in_row, "&self.$NAME", Items::Values, (8, 7))?,
     })
+}
+
+/// The type of the values of a row, as the schema says it.
+pub(crate) fn values_of_row<'a>(
+    sheet: &mut Sheet,
+    target: &Target<'a>,
+) -> Result<String, AllocError> {
+    let of = format!(in sheet.alloc; "<{} as nano_schema::Shape>::Values", target.row)?;
+    Ok(sheet.short(of.as_str()))
 }
 
 /// A text for each field as nested pairs, on a line that is indented so far, after so many columns
@@ -62,7 +66,7 @@ pub fn laid<'a>(
     Ok(paired(alloc, texts, items, indent, before)?.laid)
 }
 
-/// A struct of fields that are at hand by their names, but for those that are skipped.
+/// A struct of fields that are at hand by their names, but for those that do not stand in the schema.
 pub fn made<'a>(
     alloc: Global,
     target: &Target<'a>,

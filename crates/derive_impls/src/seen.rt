@@ -9,8 +9,6 @@ use std::alloc::AllocError;
 pub(crate) struct Seen {
     /// The type of the values.
     pub(crate) types: String,
-    /// The type of references to them.
-    pub(crate) refs: String,
     /// The values of the struct `x`, in a ghost term.
     pub(crate) view: String,
     /// Lines that take `values` apart.
@@ -33,7 +31,7 @@ $TAKEN        $MADE
 }
 
 impl$LIFETIME nano_schema::FieldRefs<'a> for $FULL$OPEN
-    type Refs = $PARTS;
+    type Refs = <$ROW as nano_schema::Borrowed<'a>>::Refs;
 
     ghost values = { ⟦<$ROW as nano_schema::Borrowed<'a>>⟧.values };
 
@@ -62,7 +60,6 @@ pub(crate) fn append_seen<'a>(
 ) -> Result<(), AllocError> {
     let mut holes = target.bounded_holes(sheet)?;
     holes.put("FIELDS", seen.types.as_str());
-    holes.put("PARTS", seen.refs.as_str());
     holes.put("VIEW", seen.view.as_str());
     holes.put("TAKEN", seen.taken.as_str());
     holes.put("MADE", seen.made.as_str());

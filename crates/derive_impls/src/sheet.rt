@@ -69,7 +69,7 @@ impl Sheet {
     }
 
     /// Takes note of a step for which there was no memory.
-    fn note(&mut self, step: Result<(), AllocError>) {
+    pub(crate) fn note(&mut self, step: Result<(), AllocError>) {
         if step.is_err() {
             self.lacks_memory = true;
         }
@@ -153,7 +153,7 @@ impl Sheet {
     }
 
     /// Appends a line. One that is too long becomes several if it is the head of an impl or of a
-    /// method, or a ghost member with no text in it.
+    /// method, a call that is a body, or a ghost member with no text in it.
     fn line(&mut self, line: &str) -> Result<(), AllocError> {
         if width(line) <= COLUMNS {
             self.text.push_str(line)?;
@@ -161,6 +161,8 @@ impl Sheet {
             self.head(line)?;
         } else if line.starts_with("    fn ") {
             self.signature(line)?;
+        } else if line.starts_with("        nano_") && line.ends_with(')') {
+            self.call(line)?;
         } else if line.starts_with("    ghost ") && line.ends_with(" };") && !line.contains('"') {
             self.member(line)?;
         } else {
@@ -202,6 +204,19 @@ impl Sheet {
         }
         self.text.push_str("    ) -> ")?;
         self.text.push_str(result)
+    }
+
+    /// Appends a call with a line for its arguments, which are short.
+    fn call(&mut self, line: &str) -> Result<(), AllocError> {
+        let (function, arguments) = line.rsplit_once('(').unwrap_or((line, ""));
+        self.text.push_str(function)?;
+        self.text.push('(')?;
+        start_line(&mut self.text, INDENT.saturating_add(5))?;
+        self.text
+            .push_str(arguments.strip_suffix(')').unwrap_or(arguments))?;
+        self.text.push(',')?;
+        start_line(&mut self.text, INDENT.saturating_add(1))?;
+        self.text.push(')')
     }
 
     /// Appends a ghost member, in lines of as many columns as there are. A line ends at a space,

@@ -1,8 +1,10 @@
-//! Tuple structs of two to four parts, each of which is what the tuple of its parts is.
+//! Tuple structs of two to eight parts, each of which is what the tuple of its parts is: one of two
+//! to four by Rust's tuple, and a longer one by a first part and the others, each with a schema.
 
 use crate::codecs::append_codecs;
-use crate::forms::{RECORD, tupled};
-use crate::layout::{Items, Piece};
+use crate::forms::{RECORD, WIDE, tupled};
+use crate::layout::{Brackets, Items, Piece, list};
+use crate::records::values_of_row;
 use crate::seen::{Seen, append_seen};
 use crate::sheet::Sheet;
 use crate::target::Target;
@@ -18,6 +20,9 @@ pub(crate) fn append_tuple<'a>(
     parts: &[Type<'a>],
 ) -> Result<(), AllocError> {
     let alloc = sheet.alloc;
+    if parts.len() > MOST_OF_TUPLE {
+        return append_wide(sheet, target, parts);
+    }
     let values = target.values.as_str();
     let types = part_types(alloc, parts, "$TYPE")?;
     let before = values.len().saturating_add("type  = ".len());
@@ -46,25 +51,82 @@ fn parts_writer(alloc: Global, count: usize) -> Result<String, AllocError> {
 }
 
 /// What a program calls the parts of a struct.
-pub(crate) const PLACES: [&str; 4] = ["0", "1", "2", "3"];
+pub(crate) const PLACES: [&str; 8] = ["0", "1", "2", "3", "4", "5", "6", "7"];
+
+/// How many parts the longest of Rust's tuples has that is read and written.
+const MOST_OF_TUPLE: usize = 4;
+
+/// Appends the impls of a tuple struct of more parts than such a tuple has.
+fn append_wide<'a>(
+    sheet: &mut Sheet,
+    target: &Target<'a>,
+    parts: &[Type<'a>],
+) -> Result<(), AllocError> {
+    let alloc = sheet.alloc;
+    let open = sheet.short("nano_schema::Newtype<$TYPE>");
+    let schemas = part_types(alloc, parts, open.as_str())?;
+    let before = target.row.len().saturating_add("type  = ".len());
+    let row = first_and_others(alloc, &schemas, Items::Types, (0, before, 1))?;
+    sheet.alias(target.row.as_str(), row.laid.as_str());
+    let seen = wide_seen(sheet, target, parts.len())?;
+    append_seen(sheet, target, &seen)?;
+    append_codecs(sheet, target, &RECORD, &WIDE)
+}
+
+/// The struct of so many parts as the first of them and the others.
+fn wide_seen<'a>(sheet: &mut Sheet, target: &Target<'a>, count: usize) -> Result<Seen, AllocError> {
+    let alloc = sheet.alloc;
+    let names = named(alloc, "", &PARTS, count)?;
+    let places = named(alloc, "x.", &PLACES, count)?;
+    let borrowed = named(alloc, "&self.", &PLACES, count)?;
+    let pattern = first_and_others(alloc, &names, Items::Patterns, (8, 12, 10))?;
+    Ok(Seen {
+        types: values_of_row(sheet, target)?,
+        view: first_and_others(alloc, &places, Items::Patterns, (0, 0, 0))?.flat,
+        taken: format!(in alloc; "        let {} = values;\n", pattern.laid)?,
+        made: made(alloc, target, &names)?,
+        borrowed: first_and_others(alloc, &borrowed, Items::Values, (8, 8, 0))?.laid,
+    })
+}
+
+/// Texts as pairs of the first and the others, on a line that is indented so far, after so many
+/// columns of it and before some more.
+fn first_and_others(
+    alloc: Global,
+    texts: &[String],
+    items: Items,
+    (indent, before, after): (usize, usize, usize),
+) -> Result<Piece, AllocError> {
+    let (Some(first), others) = (texts.first(), texts.get(1..).unwrap_or(&[])) else {
+        return Piece::of(alloc, "()");
+    };
+    let first = Piece::of(alloc, first.as_str())?;
+    if others.is_empty() {
+        return Ok(first);
+    }
+    let inner = indent.saturating_add(4);
+    let others = first_and_others(alloc, others, items, (inner, inner, 1))?;
+    let brackets = Brackets {
+        open: "(",
+        close: ")",
+        items,
+        indent,
+        before,
+        after,
+    };
+    list(alloc, brackets, &[first, others])
+}
 
 /// The struct as the tuple of its parts.
 fn seen<'a>(alloc: Global, target: &Target<'a>, parts: &[Type<'a>]) -> Result<Seen, AllocError> {
     let names = named(alloc, "", &PARTS, parts.len())?;
     Ok(Seen {
         types: target.values.clone()?,
-        refs: references(alloc, parts)?,
         view: placed(alloc, "x.", parts.len(), (0, 0))?.flat,
         taken: taken(alloc, &names)?,
         made: made(alloc, target, &names)?,
         borrowed: placed(alloc, "&self.", parts.len(), (8, 7))?.laid,
     })
-}
-
-/// The type of the tuple of references to the parts.
-fn references<'a>(alloc: Global, parts: &[Type<'a>]) -> Result<String, AllocError> {
-    let refs = part_types(alloc, parts, "&'a $TYPE")?;
-    Ok(bracketed(alloc, ("(", ")"), &refs, Items::Types, (4, 16))?.laid)
 }
 
 /// The tuple of so many parts, each by its place after some text.

@@ -1,7 +1,7 @@
 //! What the module of the impls brings in, so that items are said by their names alone.
 //!
 //! An item whose name the file declares or brings in is said by its path, so that nothing there
-//! stands in for it.
+//! stands in for it. Functions and macros are said by their paths, too.
 
 use crate::layout::{Brackets, COLUMNS, Items, Piece, filled, in_line, width};
 use crate::names::Names;
@@ -22,7 +22,7 @@ const MODULES: [&str; 11] = [
     "std::str",
 ];
 
-/// An item that two modules have: it is said by its path.
+/// An item that two modules have: it is said by its path, as functions and macros are.
 const SHARED: &str = "Part";
 
 /// What brings in items of a module.
@@ -93,7 +93,7 @@ impl Use {
     /// Brings in the item whose name a text begins with, and says whether its name is free for it.
     fn brings(&mut self, alloc: Global, names: &mut Names, text: &str) -> Result<bool, AllocError> {
         let name = first_word(text);
-        if name == SHARED {
+        if name == SHARED || name.starts_with(|c: char| c.is_ascii_lowercase()) {
             return Ok(false);
         }
         for known in &self.names {

@@ -9,7 +9,9 @@ use derive_syntax::{Content, Holes, Variant};
 use std::alloc::{AllocError, Global};
 
 /// What a pattern calls the parts of a tuple variant.
-pub const PARTS: [&str; 4] = ["first", "second", "third", "fourth"];
+pub const PARTS: [&str; 8] = [
+    "first", "second", "third", "fourth", "fifth", "sixth", "seventh", "eighth",
+];
 
 /// Texts as a tuple, or the one text that there is, on a line that is indented so far, after so
 /// many columns of it.

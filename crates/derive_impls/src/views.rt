@@ -3,7 +3,7 @@
 use crate::layout::{COLUMNS, width};
 use crate::rows::ghost_pairs;
 use crate::target::Target;
-use derive_syntax::{Content, Variant};
+use derive_syntax::{Content, Variant, stands_in_row};
 use std::alloc::{AllocError, Global};
 
 /// Lines that bring in the ghost names of the variants.
@@ -99,7 +99,7 @@ fn ghost_content<'a>(
         Content::Fields(fields) => {
             let mut in_row = Vec::new(alloc);
             for (field, binder) in fields.iter().zip(binders) {
-                if field.attributes.skip.is_none() {
+                if stands_in_row(*field) {
                     in_row.push(binder.clone()?)?;
                 }
             }

@@ -12,7 +12,7 @@ mod nested_json;
 mod shared;
 
 use crate::syntax::Source;
-pub use defaults::{Missing, missing_value};
+pub use defaults::{Missing, missing_value, stands_in_row};
 use definitions::check_definition;
 use derive_source::Fault;
 use names::check_distinct;

@@ -18,7 +18,7 @@ mod token;
 mod types;
 mod used;
 
-pub use check::{Missing, check_source, field_name, missing_value, variant_name};
+pub use check::{Missing, check_source, field_name, missing_value, stands_in_row, variant_name};
 pub use containers::Container;
 pub use cycle::Cycle;
 pub use derive_source::{

@@ -15,7 +15,7 @@ impl<T, D> BinShape for Skipped<T, D> {
     ghost codec = { unit_codec };
 }
 
-impl<T: Value, D: DefaultOf<T>> BinFields for Skipped<T, D> {
+impl<T: Value + Drop, D: DefaultOf<T>> BinFields for Skipped<T, D> {
     type Values = T;
 
     ghost codec = { unit_codec };

@@ -23,11 +23,9 @@ pub enum Missing<'a> {
     Path(&'a str),
 }
 
-const MEMORY: &str = "is for a field whose type has a `Default` that takes no memory: no text, \
-    list, map, set or box is one";
-
-const CONSTANT: &str = "is no number and no truth value, and a skipped field has one of these or \
-    the default of its type";
+const NO_DEFAULT: &str =
+    "is for a field whose type has a default: a box has none, and no tuple and \
+    no array of texts, lists, maps or sets has one";
 
 const NO_TYPE: &str = "is no value of the field's type, and no path of a type that stands for one";
 
@@ -63,8 +61,10 @@ pub(crate) fn check_default<'a>(
 ) -> Result<(), Fault> {
     check_parameters(definition, field)?;
     let missing = missing_value(field);
-    if let Some(word) = field.attributes.skip {
-        check_skip(field, word, missing)?;
+    if let (Some(word), Missing::OfType) = (field.attributes.skip, missing) {
+        if let TypeDefault::None = type_default(field.of) {
+            return Err(word.fault(NO_DEFAULT));
+        }
     }
     match field.attributes.default_path {
         Some(token) => check_given(source, field, token, missing),
@@ -105,23 +105,59 @@ fn check_parameters<'a>(definition: &Definition<'a>, field: Field<'a>) -> Result
     }
 }
 
-/// An error where a skipped field cannot have this.
-fn check_skip<'a>(field: Field<'a>, word: Token<'a>, missing: Missing<'a>) -> Result<(), Fault> {
-    match (missing, field.attributes.default_path) {
-        (Missing::Text(_) | Missing::Path(_), Some(token)) => Err(token.fault(CONSTANT)),
-        (Missing::OfType, _) if takes_memory(field.of) => Err(word.fault(MEMORY)),
-        _ => Ok(()),
+/// Whether a field is read, or is skipped and made as a default of the schema: one that may take
+/// memory, or what a type stands for. Any other skipped field is made in its place, of a number, a
+/// truth value or its type's `Default`.
+pub fn stands_in_row<'a>(field: Field<'a>) -> bool {
+    if field.attributes.skip.is_none() {
+        return true;
+    }
+    match missing_value(field) {
+        Missing::OfType => matches!(type_default(field.of), TypeDefault::OfSchema),
+        Missing::Text(_) | Missing::Path(_) => true,
+        Missing::Whole(_) | Missing::Signed(_) | Missing::Truth(_) => false,
     }
 }
 
-/// Whether a type is known to have no default without an allocation.
-fn takes_memory(of: Type<'_>) -> bool {
+/// What a skipped field can be made as that is given no default.
+#[derive(Drop)]
+enum TypeDefault {
+    /// The `Default` of its type, which takes no memory.
+    InPlace,
+    /// What the schema has as the default of its type.
+    OfSchema,
+    /// Nothing.
+    None,
+}
+
+/// What a skipped field of a type can be made as.
+fn type_default(of: Type<'_>) -> TypeDefault {
     for token in of.0 {
-        if token.text == "Option" || HELD_IN_MEMORY.contains(&token.text) {
-            return token.text != "Option";
+        if token.text == "Option" {
+            break;
+        }
+        if HELD_IN_MEMORY.contains(&token.text) {
+            let is_outermost = token.text == outermost(of) && token.text != "Box";
+            return if is_outermost {
+                TypeDefault::OfSchema
+            } else {
+                TypeDefault::None
+            };
         }
     }
-    false
+    TypeDefault::InPlace
+}
+
+/// The name of a type, without its path and its arguments, or nothing if it is a tuple or an array.
+fn outermost<'a>(of: Type<'a>) -> &'a str {
+    let mut name = "";
+    for token in of.0 {
+        if token.is("<") || token.is("(") || token.is("[") {
+            break;
+        }
+        name = token.text;
+    }
+    name
 }
 
 const HELD_IN_MEMORY: [&str; 8] = [

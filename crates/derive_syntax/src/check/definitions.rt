@@ -1,7 +1,7 @@
 //! One struct or enum.
 
 use crate::check::bounds::check_bounds;
-use crate::check::defaults::check_default;
+use crate::check::defaults::{check_default, stands_in_row};
 use crate::check::keys::check_key;
 use crate::check::known::check_type;
 use crate::check::names::{EncodedName, check_distinct, check_encoded, check_name};
@@ -128,9 +128,13 @@ fn check_field<'a>(
     check_attributes(field.attributes, definition)?;
     check_default(source, definition, field)?;
     if field.attributes.skip.is_some() {
-        return check_none(&field.attributes.aliases(alloc)?);
+        check_none(&field.attributes.aliases(alloc)?)?;
     }
-    check_type(source, definition, field.of)
+    if stands_in_row(field) {
+        check_type(source, definition, field.of)
+    } else {
+        Ok(())
+    }
 }
 
 /// Adds the names of a field that is not skipped, or an error where one cannot be written.

@@ -10,6 +10,11 @@ const TRAITS: &str = "is for a type that is compared and hashed: write `#[derive
 const FIELDS: &str = "is for structs whose parts have no names and for enums: a struct with named \
     fields is no key";
 
+/// The most parts of a key.
+const MOST_OF_KEY: usize = 4;
+
+const PARTS: &str = "is for structs of one to four parts: one of more is no key";
+
 const CONTENT: &str = "is for enums whose variants have no content: one with content is no key";
 
 /// An error where a type is called a key that cannot be one, but for the types of its parts.
@@ -21,6 +26,7 @@ pub(crate) fn check_key<'a>(definition: &Definition<'a>) -> Result<(), Fault> {
         return Err(word.fault(TRAITS));
     }
     match &definition.shape {
+        Shape::Parts(parts) if parts.len() > MOST_OF_KEY => Err(word.fault(PARTS)),
         Shape::Parts(_) => Ok(()),
         Shape::Fields(_) => Err(word.fault(FIELDS)),
         Shape::Variants(variants) if has_content(variants) => Err(word.fault(CONTENT)),

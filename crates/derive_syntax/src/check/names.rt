@@ -157,11 +157,11 @@ fn check_ron_name(name: &EncodedName<'_>) -> Result<(), Fault> {
 /// An error where a name would need an escape in JSON.
 fn check_json_name(name: &EncodedName<'_>) -> Result<(), Fault> {
     for (at, c) in name.text.as_str().char_indices() {
-        if c == '"' || c == '\\' || c.is_ascii_control() || !c.is_ascii() {
+        if c == '"' || c == '\\' || c.is_ascii_control() {
             return Err(within(
                 name.token,
                 at,
-                "this is in no name here: a name is ASCII that needs no escape in JSON",
+                "this is in no name here: a name needs no escape in JSON",
             ));
         }
     }

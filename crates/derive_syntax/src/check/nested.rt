@@ -47,6 +47,10 @@ const NO_FILE: &str = "contains itself, or has a part that does, and stands in a
     contains itself: it is defined in a file of its own, and a line `use crate::module::Type;` names \
     that file's module and the type";
 
+const NO_ASCII: &str =
+    "is beyond ASCII, and stands in a type that contains itself, where names are \
+    ASCII";
+
 const NO_WORD: &str = "stands in a type that contains itself: above its fields and variants is no \
     attribute but `rename` and `default`";
 
@@ -181,7 +185,15 @@ fn check_words(alloc: Global, attributes: Attributes<'_>) -> Result<(), Fault> {
     let aliases = attributes.aliases(alloc)?;
     match attributes.skip.or(aliases.first().copied()) {
         Some(word) => Err(word.fault(NO_WORD)),
-        None => Ok(()),
+        None => check_ascii(attributes),
+    }
+}
+
+/// An error at a name that is given and is beyond ASCII.
+fn check_ascii(attributes: Attributes<'_>) -> Result<(), Fault> {
+    match attributes.rename {
+        Some(name) if !name.quoted().is_ascii() => Err(name.fault(NO_ASCII)),
+        _ => Ok(()),
     }
 }
 
@@ -240,6 +252,7 @@ fn check_variants<'a>(
     variants: &[Variant<'a>],
 ) -> Result<(), Fault> {
     for variant in variants {
+        check_ascii(variant.attributes)?;
         match &variant.content {
             Content::Nothing => {}
             Content::Parts(parts) => check_parts(alloc, source, cycle, parts)?,

@@ -8,7 +8,11 @@ use crate::token::Token;
 use derive_source::Fault;
 use std::alloc::Global;
 
-const MOST_PARTS: usize = 4;
+/// The most parts of a tuple struct.
+pub(crate) const MOST_OF_STRUCT: usize = 8;
+
+/// The most parts of a tuple variant.
+const MOST_OF_VARIANT: usize = 4;
 
 /// Takes `pub`, and what may follow it in brackets: `crate`, `super`, `self`, or `in` and a path.
 pub(crate) fn visibility<'a>(cursor: &mut Cursor<'a>) -> Result<(), Fault> {
@@ -89,19 +93,27 @@ fn field<'a>(
     })
 }
 
-/// Takes the parts of a tuple struct or tuple variant, from their bracket to its end: one to four.
-pub(crate) fn parts<'a>(alloc: Global, cursor: &mut Cursor<'a>) -> Result<Vec<Type<'a>>, Fault> {
+/// Takes the parts of a tuple struct or tuple variant, from their bracket to its end: one to so many.
+pub(crate) fn parts<'a>(
+    alloc: Global,
+    cursor: &mut Cursor<'a>,
+    most: usize,
+) -> Result<Vec<Type<'a>>, Fault> {
     cursor.expect("(", "stands where `(` is wanted")?;
-    let parts = listed_parts(alloc, cursor)?;
+    let parts = listed_parts(alloc, cursor, most)?;
     cursor.expect(")", "stands where a comma or `)` is wanted")?;
     Ok(parts)
 }
 
 /// Takes the parts of a tuple struct or tuple variant, as long as there are commas between them.
-fn listed_parts<'a>(alloc: Global, cursor: &mut Cursor<'a>) -> Result<Vec<Type<'a>>, Fault> {
+fn listed_parts<'a>(
+    alloc: Global,
+    cursor: &mut Cursor<'a>,
+    most: usize,
+) -> Result<Vec<Type<'a>>, Fault> {
     let mut parts = Vec::new(alloc);
     for _turn in cursor.tokens {
-        match next_part(alloc, cursor, parts.len())? {
+        match next_part(alloc, cursor, (parts.len(), most))? {
             Some(part) => parts.push(part)?,
             None => break,
         }
@@ -112,11 +124,12 @@ fn listed_parts<'a>(alloc: Global, cursor: &mut Cursor<'a>) -> Result<Vec<Type<'
     Ok(parts)
 }
 
-/// Takes a part of a tuple after so many others, or nothing before a bracket that closes.
+/// Takes a part of a tuple of so many at most after so many others, or nothing before a bracket that
+/// closes.
 fn next_part<'a>(
     alloc: Global,
     cursor: &mut Cursor<'a>,
-    count: usize,
+    (count, most): (usize, usize),
 ) -> Result<Option<Type<'a>>, Fault> {
     attributes(cursor, Below::Part)?.of_nothing()?;
     if cursor.is_at(")") {
@@ -126,11 +139,20 @@ fn next_part<'a>(
             Err(cursor.fault(NO_PART))
         };
     }
-    if count >= MOST_PARTS {
-        return Err(cursor.fault("begins a fifth part: there are one to four without names"));
+    if count >= most {
+        return Err(cursor.fault(too_many(most)));
     }
     visibility(cursor)?;
     Ok(Some(parse_type(alloc, cursor)?))
+}
+
+/// What is wrong with a part after the most that there may be.
+fn too_many(most: usize) -> &'static str {
+    if most == MOST_OF_VARIANT {
+        "begins a fifth part: a variant has one to four without names"
+    } else {
+        "begins a ninth part: a struct has one to eight without names"
+    }
 }
 
 const NO_PART: &str = "stands where a type is wanted: leave the brackets out where there is none";
@@ -183,7 +205,7 @@ fn variant<'a>(
     name: Token<'a>,
 ) -> Result<Variant<'a>, Fault> {
     let content = if cursor.is_at("(") {
-        Content::Parts(parts(alloc, cursor)?)
+        Content::Parts(parts(alloc, cursor, MOST_OF_VARIANT)?)
     } else if cursor.is_at("{") {
         Content::Fields(fields(alloc, cursor)?)
     } else {

@@ -5,7 +5,7 @@ use crate::parse::attributes::{Below, attributes};
 use crate::parse::bounds::{parameters, where_clause};
 use crate::parse::brackets::check_brackets;
 use crate::parse::cursor::Cursor;
-use crate::parse::fields::{fields, parts, variants, visibility};
+use crate::parse::fields::{MOST_OF_STRUCT, fields, parts, variants, visibility};
 use crate::syntax::{Attributes, Definition, Shape, Source};
 use crate::token::{Token, TokenKind};
 use derive_source::Fault;
@@ -125,7 +125,7 @@ fn definition<'a>(
     let shape = if is_enum {
         Shape::Variants(variants(alloc, cursor)?)
     } else if cursor.is_at("(") {
-        let parts = parts(alloc, cursor)?;
+        let parts = parts(alloc, cursor, MOST_OF_STRUCT)?;
         where_clause(alloc, cursor, &mut bounds)?;
         cursor.expect(";", "stands where `;` is wanted")?;
         Shape::Parts(parts)

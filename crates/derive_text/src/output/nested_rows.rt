@@ -83,7 +83,7 @@ fn labelled<'a>(
         let item = sheet.made(type_text(alloc, part));
         sheet.push(&mut texts, item);
         if field.attributes.default.is_some() {
-            texts.push(append_default(sheet, target, owner, *field)?)?;
+            texts.push(append_default(sheet, owner, *field)?)?;
         }
         leaves.push(leaf(sheet, target, (kind, field.of), texts))?;
     }

@@ -8,11 +8,10 @@ ghost use Rattle.nano_json_schema.specs.Enums.{json_choice};
 use super::*;
 use nano_json_schema::{
     DeJson, DeJsonState, JsonCodec, JsonResult, JsonShapes, SerJson, SerJsonState,
-    read_choice_json, write_choice_json,
 };
 use nano_schema::{
     BorrowedChoices, Choices, Either, EnumSchema, Label, Optional, Required, Struct, Value,
-    Variant, VariantRefs, known_variant,
+    Variant, VariantRefs,
 };
 use std::alloc::{AllocError, Global};
 use std::str::Chars;
@@ -20,16 +19,11 @@ use std::str::Chars;
 struct EventNames<const I: usize> {}
 
 impl<const I: usize> Label for EventNames<I> {
-    ghost label = { if I == 0 then codes "Opened"
-        else if I == 1 then codes "PaidIn"
+    ghost label = { if I == 0 then codes "Opened" else if I == 1 then codes "PaidIn"
         else codes "PaidOut" };
 
     fn text() -> &'static str {
-        match I {
-            0 => "Opened",
-            1 => "PaidIn",
-            _ => "PaidOut",
-        }
+        nano_schema::name_of!(I, 0 => "Opened", 1 => "PaidIn", _ => "PaidOut")
     }
 }
 
@@ -48,14 +42,10 @@ type EventOpenedParts = Required<EventOpenedName, String>;
 struct EventPaidInNames<const I: usize> {}
 
 impl<const I: usize> Label for EventPaidInNames<I> {
-    ghost label = { if I == 0 then codes "account"
-        else codes "cents" };
+    ghost label = { if I == 0 then codes "account" else codes "cents" };
 
     fn text() -> &'static str {
-        match I {
-            0 => "account",
-            _ => "cents",
-        }
+        nano_schema::name_of!(I, 0 => "account", _ => "cents")
     }
 }
 
@@ -67,16 +57,11 @@ type EventPaidInParts = (
 struct EventPaidOutNames<const I: usize> {}
 
 impl<const I: usize> Label for EventPaidOutNames<I> {
-    ghost label = { if I == 0 then codes "account"
-        else if I == 1 then codes "cents"
+    ghost label = { if I == 0 then codes "account" else if I == 1 then codes "cents"
         else codes "note" };
 
     fn text() -> &'static str {
-        match I {
-            0 => "account",
-            1 => "cents",
-            _ => "note",
-        }
+        nano_schema::name_of!(I, 0 => "account", 1 => "cents", _ => "note")
     }
 }
 
@@ -181,11 +166,9 @@ impl Value for Event {
     ghost legal = { LegalVariant ⟦<EventVariants as Choices>⟧.legals };
 
     fn known(&self) {
-        known_variant::<Self, EventVariants>(self);
+        nano_schema::known_variant::<Self, EventVariants>(self);
     }
 }
-
-// ---- JSON
 
 impl JsonCodec for Event {
     ghost json = { json_choice ⟦<Event as EnumSchema>⟧.view ⟦<EventVariants as JsonShapes>⟧.codec
@@ -196,12 +179,12 @@ impl JsonCodec for Event {
 
 impl SerJson for Event {
     fn ser_json(&self, alloc: Global, d: usize, s: &mut SerJsonState) -> Result<(), AllocError> {
-        write_choice_json::<Self, EventVariants>(self, alloc, d, s)
+        nano_json_schema::write_choice_json::<Self, EventVariants>(self, alloc, d, s)
     }
 }
 
 impl DeJson for Event {
     fn de_json(alloc: Global, state: &mut DeJsonState, input: &mut Chars<'_>) -> JsonResult<Self> {
-        read_choice_json::<Self, EventVariants>(alloc, state, input)
+        nano_json_schema::read_choice_json::<Self, EventVariants>(alloc, state, input)
     }
 }

@@ -6,28 +6,21 @@ ghost use Rattle.nano_schema.specs.UserTypes.{LegalVariant, agreed};
 ghost use Rattle.nano_bin_schema.specs.Enums.{bin_choice};
 
 use super::*;
-use nano_bin_schema::{
-    BinCodec, BinShapes, DeBin, DeBinErr, SerBin, read_choice_bin, write_choice_bin,
-};
+use nano_bin_schema::{BinCodec, BinShapes, DeBin, DeBinErr, SerBin};
 use nano_schema::{
     BorrowedChoices, Choices, Either, EnumSchema, Label, Required, Struct, Tuple, Unit, Value,
-    Variant, VariantRefs, known_variant,
+    Variant, VariantRefs,
 };
 use std::alloc::{AllocError, Global};
 
 struct MessageNames<const I: usize> {}
 
 impl<const I: usize> Label for MessageNames<I> {
-    ghost label = { if I == 0 then codes "Leave"
-        else if I == 1 then codes "Move"
+    ghost label = { if I == 0 then codes "Leave" else if I == 1 then codes "Move"
         else codes "Say" };
 
     fn text() -> &'static str {
-        match I {
-            0 => "Leave",
-            1 => "Move",
-            _ => "Say",
-        }
+        nano_schema::name_of!(I, 0 => "Leave", 1 => "Move", _ => "Say")
     }
 }
 
@@ -36,14 +29,10 @@ type MessageMoveParts = (u32, Vec<i16>);
 struct MessageSayNames<const I: usize> {}
 
 impl<const I: usize> Label for MessageSayNames<I> {
-    ghost label = { if I == 0 then codes "text"
-        else codes "to" };
+    ghost label = { if I == 0 then codes "text" else codes "to" };
 
     fn text() -> &'static str {
-        match I {
-            0 => "text",
-            _ => "to",
-        }
+        nano_schema::name_of!(I, 0 => "text", _ => "to")
     }
 }
 
@@ -134,11 +123,9 @@ impl Value for Message {
     ghost legal = { LegalVariant ⟦<MessageVariants as Choices>⟧.legals };
 
     fn known(&self) {
-        known_variant::<Self, MessageVariants>(self);
+        nano_schema::known_variant::<Self, MessageVariants>(self);
     }
 }
-
-// ---- bytes
 
 impl BinCodec for Message {
     ghost bin = { bin_choice ⟦<Message as EnumSchema>⟧.view
@@ -149,7 +136,7 @@ impl BinCodec for Message {
 
 impl SerBin for Message {
     fn ser_bin(&self, alloc: Global, output: &mut Vec<u8>) -> Result<(), AllocError> {
-        write_choice_bin::<Self, MessageVariants>(self, alloc, output)
+        nano_bin_schema::write_choice_bin::<Self, MessageVariants>(self, alloc, output)
     }
 }
 
@@ -157,6 +144,6 @@ impl DeBin for Message {
     ghost is_decodable = { refl };
 
     fn de_bin(alloc: Global, offset: &mut usize, bytes: &[u8]) -> Result<Self, DeBinErr> {
-        read_choice_bin::<Self, MessageVariants>(alloc, offset, bytes)
+        nano_bin_schema::read_choice_bin::<Self, MessageVariants>(alloc, offset, bytes)
     }
 }

@@ -8,31 +8,20 @@ ghost use Rattle.nano_ron_schema.specs.Structs.{ron_of};
 use super::*;
 use nano_json_schema::{
     DeJson, DeJsonState, JsonCodec, JsonResult, JsonShape, Place, SerJson, SerJsonState,
-    read_record_json, take_record_json, write_record_json,
 };
-use nano_ron_schema::{
-    DeRon, DeRonState, RonCodec, RonResult, RonShape, SerRon, SerRonState, read_record_ron,
-    write_record_ron,
-};
-use nano_schema::{
-    Borrowed, FieldRefs, Label, Optional, Required, Shape, StructSchema, Value, known_record,
-};
+use nano_ron_schema::{DeRon, DeRonState, RonCodec, RonResult, RonShape, SerRon, SerRonState};
+use nano_schema::{Borrowed, FieldRefs, Label, Optional, Required, Shape, StructSchema, Value};
 use std::alloc::{AllocError, Global};
 use std::str::Chars;
 
-struct StateNames<const I: usize> {}
+pub struct StateNames<const I: usize> {}
 
 impl<const I: usize> Label for StateNames<I> {
-    ghost label = { if I == 0 then codes "coins"
-        else if I == 1 then codes "times"
+    ghost label = { if I == 0 then codes "coins" else if I == 1 then codes "times"
         else codes "player" };
 
     fn text() -> &'static str {
-        match I {
-            0 => "coins",
-            1 => "times",
-            _ => "player",
-        }
+        nano_schema::name_of!(I, 0 => "coins", 1 => "times", _ => "player")
     }
 }
 
@@ -45,7 +34,7 @@ type StateFields = (
 );
 
 impl StructSchema for State {
-    type Values = (u32, (HashMap<String, u64>, Option<String>));
+    type Values = <StateFields as Shape>::Values;
 
     ghost view = { λ x. (x.coins, (x.times, x.player)) };
 
@@ -60,7 +49,7 @@ impl StructSchema for State {
 }
 
 impl<'a> FieldRefs<'a> for State {
-    type Refs = (&'a u32, (&'a HashMap<String, u64>, &'a Option<String>));
+    type Refs = <StateFields as Borrowed<'a>>::Refs;
 
     ghost values = { ⟦<StateFields as Borrowed<'a>>⟧.values };
 
@@ -75,11 +64,9 @@ impl Value for State {
     ghost legal = { ⟦<StateFields as Shape>⟧.legal };
 
     fn known(&self) {
-        known_record::<Self, StateFields>(self);
+        nano_schema::known_record::<Self, StateFields>(self);
     }
 }
-
-// ---- JSON
 
 impl JsonCodec for State {
     ghost json = { json_of ⟦<State as StructSchema>⟧.view ⟦<StateFields as JsonShape>⟧.codec refl };
@@ -89,13 +76,13 @@ impl JsonCodec for State {
 
 impl SerJson for State {
     fn ser_json(&self, alloc: Global, d: usize, s: &mut SerJsonState) -> Result<(), AllocError> {
-        write_record_json::<Self, StateFields>(self, alloc, d, s)
+        nano_json_schema::write_record_json::<Self, StateFields>(self, alloc, d, s)
     }
 }
 
 impl DeJson for State {
     fn de_json(alloc: Global, state: &mut DeJsonState, input: &mut Chars<'_>) -> JsonResult<Self> {
-        read_record_json::<Self, StateFields>(alloc, state, input)
+        nano_json_schema::read_record_json::<Self, StateFields>(alloc, state, input)
     }
 
     fn de_json_plain(
@@ -104,11 +91,9 @@ impl DeJson for State {
         input: &mut Chars<'_>,
         text: &mut String,
     ) -> Option<Self> {
-        take_record_json::<Self, StateFields>(alloc, place, input, text)
+        nano_json_schema::take_record_json::<Self, StateFields>(alloc, place, input, text)
     }
 }
-
-// ---- RON
 
 impl RonCodec for State {
     ghost ron = { ron_of ⟦<State as StructSchema>⟧.view ⟦<StateFields as RonShape>⟧.codec refl };
@@ -118,12 +103,12 @@ impl RonCodec for State {
 
 impl SerRon for State {
     fn ser_ron(&self, alloc: Global, d: usize, s: &mut SerRonState) -> Result<(), AllocError> {
-        write_record_ron::<Self, StateFields>(self, alloc, d, s)
+        nano_ron_schema::write_record_ron::<Self, StateFields>(self, alloc, d, s)
     }
 }
 
 impl DeRon for State {
     fn de_ron(alloc: Global, state: &mut DeRonState, input: &mut Chars<'_>) -> RonResult<Self> {
-        read_record_ron::<Self, StateFields>(alloc, state, input)
+        nano_ron_schema::read_record_ron::<Self, StateFields>(alloc, state, input)
     }
 }

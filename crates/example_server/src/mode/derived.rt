@@ -9,48 +9,35 @@ ghost use Rattle.nano_ron_schema.specs.Enums.{ron_choice};
 use super::*;
 use nano_json_schema::{
     DeJson, DeJsonState, JsonCodec, JsonResult, JsonShapes, SerJson, SerJsonState,
-    read_choice_json, write_choice_json,
 };
-use nano_ron_schema::{
-    DeRon, DeRonState, RonCodec, RonResult, RonShapes, SerRon, SerRonState, read_choice_ron,
-    write_choice_ron,
-};
+use nano_ron_schema::{DeRon, DeRonState, RonCodec, RonResult, RonShapes, SerRon, SerRonState};
 use nano_schema::{
     BorrowedChoices, Choices, Either, EnumSchema, Label, Newtype, Required, Struct, Unit, Value,
-    Variant, VariantRefs, known_variant,
+    Variant, VariantRefs,
 };
 use std::alloc::{AllocError, Global};
 use std::str::Chars;
 
-struct ModeNames<const I: usize> {}
+pub struct ModeNames<const I: usize> {}
 
 impl<const I: usize> Label for ModeNames<I> {
-    ghost label = { if I == 0 then codes "Off"
-        else if I == 1 then codes "Fixed"
+    ghost label = { if I == 0 then codes "Off" else if I == 1 then codes "Fixed"
         else codes "Range" };
 
     fn text() -> &'static str {
-        match I {
-            0 => "Off",
-            1 => "Fixed",
-            _ => "Range",
-        }
+        nano_schema::name_of!(I, 0 => "Off", 1 => "Fixed", _ => "Range")
     }
 }
 
 type ModeFixedParts = u32;
 
-struct ModeRangeNames<const I: usize> {}
+pub struct ModeRangeNames<const I: usize> {}
 
 impl<const I: usize> Label for ModeRangeNames<I> {
-    ghost label = { if I == 0 then codes "least"
-        else codes "most" };
+    ghost label = { if I == 0 then codes "least" else codes "most" };
 
     fn text() -> &'static str {
-        match I {
-            0 => "least",
-            _ => "most",
-        }
+        nano_schema::name_of!(I, 0 => "least", _ => "most")
     }
 }
 
@@ -140,11 +127,9 @@ impl Value for Mode {
     ghost legal = { LegalVariant ⟦<ModeVariants as Choices>⟧.legals };
 
     fn known(&self) {
-        known_variant::<Self, ModeVariants>(self);
+        nano_schema::known_variant::<Self, ModeVariants>(self);
     }
 }
-
-// ---- JSON
 
 impl JsonCodec for Mode {
     ghost json = { json_choice ⟦<Mode as EnumSchema>⟧.view ⟦<ModeVariants as JsonShapes>⟧.codec
@@ -155,17 +140,15 @@ impl JsonCodec for Mode {
 
 impl SerJson for Mode {
     fn ser_json(&self, alloc: Global, d: usize, s: &mut SerJsonState) -> Result<(), AllocError> {
-        write_choice_json::<Self, ModeVariants>(self, alloc, d, s)
+        nano_json_schema::write_choice_json::<Self, ModeVariants>(self, alloc, d, s)
     }
 }
 
 impl DeJson for Mode {
     fn de_json(alloc: Global, state: &mut DeJsonState, input: &mut Chars<'_>) -> JsonResult<Self> {
-        read_choice_json::<Self, ModeVariants>(alloc, state, input)
+        nano_json_schema::read_choice_json::<Self, ModeVariants>(alloc, state, input)
     }
 }
-
-// ---- RON
 
 impl RonCodec for Mode {
     ghost ron = { ron_choice ⟦<Mode as EnumSchema>⟧.view ⟦<ModeVariants as RonShapes>⟧.codec refl
@@ -176,12 +159,12 @@ impl RonCodec for Mode {
 
 impl SerRon for Mode {
     fn ser_ron(&self, alloc: Global, d: usize, s: &mut SerRonState) -> Result<(), AllocError> {
-        write_choice_ron::<Self, ModeVariants>(self, alloc, d, s)
+        nano_ron_schema::write_choice_ron::<Self, ModeVariants>(self, alloc, d, s)
     }
 }
 
 impl DeRon for Mode {
     fn de_ron(alloc: Global, state: &mut DeRonState, input: &mut Chars<'_>) -> RonResult<Self> {
-        read_choice_ron::<Self, ModeVariants>(alloc, state, input)
+        nano_ron_schema::read_choice_ron::<Self, ModeVariants>(alloc, state, input)
     }
 }

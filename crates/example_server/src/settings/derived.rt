@@ -1,67 +1,33 @@
 //! Written by derive_files: how the types of the module above are encoded.
 
 ghost use Rattle.std.specs.Prelude.{codes, ◌==◌, if◌then◌else◌, refl};
-ghost use Rattle.nano_schema.specs.UserTypes.{whole, agreed};
 ghost use Rattle.nano_json_schema.specs.Structs.{json_of};
+ghost use Rattle.nano_schema.specs.UserTypes.{agreed};
 ghost use Rattle.nano_ron_schema.specs.Structs.{ron_of};
 
 use super::*;
 use nano_json_schema::{
-    DeJson, DeJsonState, JsonCodec, JsonDefaultOf, JsonResult, JsonShape, Place, SerJson,
-    SerJsonState, read_record_json, take_record_json, write_record_json,
+    DeJson, DeJsonState, JsonCodec, JsonResult, JsonShape, Place, SerJson, SerJsonState,
 };
-use nano_ron_schema::{
-    DeRon, DeRonState, RonCodec, RonDefaultOf, RonResult, RonShape, SerRon, SerRonState,
-    read_record_ron, write_record_ron,
-};
+use nano_ron_schema::{DeRon, DeRonState, RonCodec, RonResult, RonShape, SerRon, SerRonState};
 use nano_schema::{
-    Borrowed, DefaultOf, Defaulted, FieldRefs, Label, Optional, Required, Shape, StructSchema,
-    TypeDefault, Value, known_record,
+    Borrowed, DefaultU16, Defaulted, FieldRefs, Label, Optional, Required, Shape, StructSchema,
+    TypeDefault, Value,
 };
 use std::alloc::{AllocError, Global};
 use std::str::Chars;
 
-struct SettingsNames<const I: usize> {}
+pub struct SettingsNames<const I: usize> {}
 
 impl<const I: usize> Label for SettingsNames<I> {
-    ghost label = { if I == 0 then codes "name"
-        else if I == 1 then codes "port"
-        else if I == 2 then codes "workers"
-        else if I == 3 then codes "verbose"
-        else if I == 4 then codes "tags"
-        else if I == 5 then codes "owner"
-        else codes "mode" };
+    ghost label = { if I == 0 then codes "name" else if I == 1 then codes "port"
+        else if I == 2 then codes "workers" else if I == 3 then codes "verbose"
+        else if I == 4 then codes "tags" else if I == 5 then codes "owner" else codes "mode" };
 
     fn text() -> &'static str {
-        match I {
-            0 => "name",
-            1 => "port",
-            2 => "workers",
-            3 => "verbose",
-            4 => "tags",
-            5 => "owner",
-            _ => "mode",
-        }
+        nano_schema::name_of!(I, 0 => "name", 1 => "port", 2 => "workers", 3 => "verbose",
+            4 => "tags", 5 => "owner", _ => "mode")
     }
-}
-
-/// The default of `workers`.
-struct SettingsWorkersDefault {}
-
-impl DefaultOf<u16> for SettingsWorkersDefault {
-    ghost missing = { whole 4 };
-
-    fn default(_alloc: Global) -> Result<u16, AllocError> {
-        Ok(4)
-    }
-}
-
-impl JsonDefaultOf<u16> for SettingsWorkersDefault {
-    ghost is_sound = { λ x e. tt };
-}
-
-impl RonDefaultOf<u16> for SettingsWorkersDefault {
-    ghost is_sound = { λ x e. tt };
 }
 
 type SettingsFields = (
@@ -69,7 +35,7 @@ type SettingsFields = (
         Required<SettingsNames<0>, String>,
         (
             Required<SettingsNames<1>, u16>,
-            Defaulted<SettingsNames<2>, u16, SettingsWorkersDefault>,
+            Defaulted<SettingsNames<2>, u16, DefaultU16<4>>,
         ),
     ),
     (
@@ -85,10 +51,7 @@ type SettingsFields = (
 );
 
 impl StructSchema for Settings {
-    type Values = (
-        (String, (u16, u16)),
-        ((bool, Vec<String>), (Option<String>, Mode)),
-    );
+    type Values = <SettingsFields as Shape>::Values;
 
     ghost view = { λ x. ((x.name, (x.port, x.workers)), ((x.verbose, x.tags), (x.owner, x.mode))) };
 
@@ -107,10 +70,7 @@ impl StructSchema for Settings {
 }
 
 impl<'a> FieldRefs<'a> for Settings {
-    type Refs = (
-        (&'a String, (&'a u16, &'a u16)),
-        ((&'a bool, &'a Vec<String>), (&'a Option<String>, &'a Mode)),
-    );
+    type Refs = <SettingsFields as Borrowed<'a>>::Refs;
 
     ghost values = { ⟦<SettingsFields as Borrowed<'a>>⟧.values };
 
@@ -128,11 +88,9 @@ impl Value for Settings {
     ghost legal = { ⟦<SettingsFields as Shape>⟧.legal };
 
     fn known(&self) {
-        known_record::<Self, SettingsFields>(self);
+        nano_schema::known_record::<Self, SettingsFields>(self);
     }
 }
-
-// ---- JSON
 
 impl JsonCodec for Settings {
     ghost json = { json_of ⟦<Settings as StructSchema>⟧.view
@@ -143,13 +101,13 @@ impl JsonCodec for Settings {
 
 impl SerJson for Settings {
     fn ser_json(&self, alloc: Global, d: usize, s: &mut SerJsonState) -> Result<(), AllocError> {
-        write_record_json::<Self, SettingsFields>(self, alloc, d, s)
+        nano_json_schema::write_record_json::<Self, SettingsFields>(self, alloc, d, s)
     }
 }
 
 impl DeJson for Settings {
     fn de_json(alloc: Global, state: &mut DeJsonState, input: &mut Chars<'_>) -> JsonResult<Self> {
-        read_record_json::<Self, SettingsFields>(alloc, state, input)
+        nano_json_schema::read_record_json::<Self, SettingsFields>(alloc, state, input)
     }
 
     fn de_json_plain(
@@ -158,11 +116,9 @@ impl DeJson for Settings {
         input: &mut Chars<'_>,
         text: &mut String,
     ) -> Option<Self> {
-        take_record_json::<Self, SettingsFields>(alloc, place, input, text)
+        nano_json_schema::take_record_json::<Self, SettingsFields>(alloc, place, input, text)
     }
 }
-
-// ---- RON
 
 impl RonCodec for Settings {
     ghost ron = { ron_of ⟦<Settings as StructSchema>⟧.view ⟦<SettingsFields as RonShape>⟧.codec
@@ -173,12 +129,12 @@ impl RonCodec for Settings {
 
 impl SerRon for Settings {
     fn ser_ron(&self, alloc: Global, d: usize, s: &mut SerRonState) -> Result<(), AllocError> {
-        write_record_ron::<Self, SettingsFields>(self, alloc, d, s)
+        nano_ron_schema::write_record_ron::<Self, SettingsFields>(self, alloc, d, s)
     }
 }
 
 impl DeRon for Settings {
     fn de_ron(alloc: Global, state: &mut DeRonState, input: &mut Chars<'_>) -> RonResult<Self> {
-        read_record_ron::<Self, SettingsFields>(alloc, state, input)
+        nano_ron_schema::read_record_ron::<Self, SettingsFields>(alloc, state, input)
     }
 }

@@ -5,15 +5,12 @@ ghost use Rattle.nano_text.specs.Outcomes.{Appends, AppendsPart};
 ghost use Rattle.nano_schema.specs.UserTypes.{agreed};
 
 use super::*;
-use nano_json_nested::{
-    NestedJson, ReadsJson, WritesJson, append_optional_within, append_required_within, no_levels,
-    read_record_json_within, rollback_on_error, too_many_levels,
-};
+use nano_json_nested::{NestedJson, ReadsJson, WritesJson};
 use nano_json_schema::{
     DeJson, DeJsonErr, DeJsonState, JsonCodec, JsonRefs, SerJson, SerJsonState,
 };
 use nano_levels::{Levels, Other, Within};
-use nano_ron_nested::{NestedRon, ReadsRon, WritesRon, append_required, read_record_ron_within};
+use nano_ron_nested::{NestedRon, ReadsRon, WritesRon};
 use nano_ron_schema::{DeRon, DeRonErr, DeRonState, RonCodec, SerRon, SerRonState};
 use nano_schema::{Label, Optional, Required, StructSchema, Value};
 use std::alloc::{AllocError, Global};
@@ -22,16 +19,11 @@ use std::str::Chars;
 struct GuideNames<const I: usize> {}
 
 impl<const I: usize> Label for GuideNames<I> {
-    ghost label = { if I == 0 then codes "name"
-        else if I == 1 then codes "stops"
+    ghost label = { if I == 0 then codes "name" else if I == 1 then codes "stops"
         else codes "next" };
 
     fn text() -> &'static str {
-        match I {
-            0 => "name",
-            1 => "stops",
-            _ => "next",
-        }
+        nano_schema::name_of!(I, 0 => "name", 1 => "stops", _ => "next")
     }
 }
 
@@ -119,7 +111,7 @@ impl GuideJsonWriter {
             inner,
             s,
         )?;
-        let next_is_first = append_required_within(
+        let next_is_first = nano_json_nested::append_required_within(
             alloc,
             "stops",
             &value.stops,
@@ -127,7 +119,14 @@ impl GuideJsonWriter {
             inner,
             s,
         )?;
-        append_optional_within(alloc, "next", &value.next, next_is_first, inner, s)?;
+        nano_json_nested::append_optional_within(
+            alloc,
+            "next",
+            &value.next,
+            next_is_first,
+            inner,
+            s,
+        )?;
         s.st_post(d)
     }
 }
@@ -137,7 +136,7 @@ impl WritesJson for Guide {
     fn write_json(&self, alloc: Global, d: usize, s: &mut SerJsonState) -> Result<(), AllocError> {
         let start = s.out.len();
         let written = GuideJsonWriter::append_record(self, alloc, d, s);
-        rollback_on_error(&mut s.out, start, written)
+        nano_json_nested::rollback_on_error(&mut s.out, start, written)
     }
 }
 
@@ -157,15 +156,21 @@ impl ReadsJson<Guide> for Levels {
         input: &mut Chars<'_>,
     ) -> Result<Guide, DeJsonErr> {
         if left == 0 {
-            return Err(too_many_levels(alloc, 64, state));
+            return Err(nano_json_nested::too_many_levels(alloc, 64, state));
         }
         let Levels::More(below) = self else {
-            return Err(no_levels(alloc, state));
+            return Err(nano_json_nested::no_levels(alloc, state));
         };
         let Some(below) = below.first() else {
-            return Err(no_levels(alloc, state));
+            return Err(nano_json_nested::no_levels(alloc, state));
         };
-        match read_record_json_within::<Levels, GuideFields>(below, left - 1, alloc, state, input) {
+        match nano_json_nested::read_record_json_within::<Levels, GuideFields>(
+            below,
+            left - 1,
+            alloc,
+            state,
+            input,
+        ) {
             Ok(values) => Ok(Guide::make(values)),
             Err(error) => Err(error),
         }
@@ -222,7 +227,7 @@ impl GuideRonWriter {
     {
         s.st_pre()?;
         let inner = d.saturating_add(1);
-        append_required(alloc, "name", &value.name, inner, s)?;
+        nano_ron_nested::append_required(alloc, "name", &value.name, inner, s)?;
         nano_ron_nested::append_required_within(alloc, "stops", &value.stops, inner, s)?;
         nano_ron_nested::append_optional_within(alloc, "next", &value.next, inner, s)?;
         s.st_post(d)
@@ -262,7 +267,13 @@ impl ReadsRon<Guide> for Levels {
         let Some(below) = below.first() else {
             return Err(nano_ron_nested::no_levels(alloc, state));
         };
-        match read_record_ron_within::<Levels, GuideFields>(below, left - 1, alloc, state, input) {
+        match nano_ron_nested::read_record_ron_within::<Levels, GuideFields>(
+            below,
+            left - 1,
+            alloc,
+            state,
+            input,
+        ) {
             Ok(values) => Ok(Guide::make(values)),
             Err(error) => Err(error),
         }
@@ -283,14 +294,10 @@ impl DeRon for Guide {
 struct StopNames<const I: usize> {}
 
 impl<const I: usize> Label for StopNames<I> {
-    ghost label = { if I == 0 then codes "ways"
-        else codes "best" };
+    ghost label = { if I == 0 then codes "ways" else codes "best" };
 
     fn text() -> &'static str {
-        match I {
-            0 => "ways",
-            _ => "best",
-        }
+        nano_schema::name_of!(I, 0 => "ways", _ => "best")
     }
 }
 
@@ -367,8 +374,22 @@ impl StopJsonWriter {
     {
         s.st_pre()?;
         let inner = d.saturating_add(1);
-        let best_is_first = append_required_within(alloc, "ways", &value.ways, true, inner, s)?;
-        append_optional_within(alloc, "best", &value.best, best_is_first, inner, s)?;
+        let best_is_first = nano_json_nested::append_required_within(
+            alloc,
+            "ways",
+            &value.ways,
+            true,
+            inner,
+            s,
+        )?;
+        nano_json_nested::append_optional_within(
+            alloc,
+            "best",
+            &value.best,
+            best_is_first,
+            inner,
+            s,
+        )?;
         s.st_post(d)
     }
 }
@@ -378,7 +399,7 @@ impl WritesJson for Stop {
     fn write_json(&self, alloc: Global, d: usize, s: &mut SerJsonState) -> Result<(), AllocError> {
         let start = s.out.len();
         let written = StopJsonWriter::append_record(self, alloc, d, s);
-        rollback_on_error(&mut s.out, start, written)
+        nano_json_nested::rollback_on_error(&mut s.out, start, written)
     }
 }
 
@@ -397,7 +418,13 @@ impl ReadsJson<Stop> for Levels {
         state: &mut DeJsonState,
         input: &mut Chars<'_>,
     ) -> Result<Stop, DeJsonErr> {
-        match read_record_json_within::<Levels, StopFields>(self, left, alloc, state, input) {
+        match nano_json_nested::read_record_json_within::<Levels, StopFields>(
+            self,
+            left,
+            alloc,
+            state,
+            input,
+        ) {
             Ok(values) => Ok(Stop::make(values)),
             Err(error) => Err(error),
         }
@@ -484,7 +511,13 @@ impl ReadsRon<Stop> for Levels {
         state: &mut DeRonState,
         input: &mut Chars<'_>,
     ) -> Result<Stop, DeRonErr> {
-        match read_record_ron_within::<Levels, StopFields>(self, left, alloc, state, input) {
+        match nano_ron_nested::read_record_ron_within::<Levels, StopFields>(
+            self,
+            left,
+            alloc,
+            state,
+            input,
+        ) {
             Ok(values) => Ok(Stop::make(values)),
             Err(error) => Err(error),
         }
@@ -505,14 +538,10 @@ impl DeRon for Stop {
 struct WayNames<const I: usize> {}
 
 impl<const I: usize> Label for WayNames<I> {
-    ghost label = { if I == 0 then codes "minutes"
-        else codes "guide" };
+    ghost label = { if I == 0 then codes "minutes" else codes "guide" };
 
     fn text() -> &'static str {
-        match I {
-            0 => "minutes",
-            _ => "guide",
-        }
+        nano_schema::name_of!(I, 0 => "minutes", _ => "guide")
     }
 }
 
@@ -596,7 +625,14 @@ impl WayJsonWriter {
             inner,
             s,
         )?;
-        append_required_within(alloc, "guide", &value.guide, guide_is_first, inner, s)?;
+        nano_json_nested::append_required_within(
+            alloc,
+            "guide",
+            &value.guide,
+            guide_is_first,
+            inner,
+            s,
+        )?;
         s.st_post(d)
     }
 }
@@ -606,7 +642,7 @@ impl WritesJson for Way {
     fn write_json(&self, alloc: Global, d: usize, s: &mut SerJsonState) -> Result<(), AllocError> {
         let start = s.out.len();
         let written = WayJsonWriter::append_record(self, alloc, d, s);
-        rollback_on_error(&mut s.out, start, written)
+        nano_json_nested::rollback_on_error(&mut s.out, start, written)
     }
 }
 
@@ -625,7 +661,13 @@ impl ReadsJson<Way> for Levels {
         state: &mut DeJsonState,
         input: &mut Chars<'_>,
     ) -> Result<Way, DeJsonErr> {
-        match read_record_json_within::<Levels, WayFields>(self, left, alloc, state, input) {
+        match nano_json_nested::read_record_json_within::<Levels, WayFields>(
+            self,
+            left,
+            alloc,
+            state,
+            input,
+        ) {
             Ok(values) => Ok(Way::make(values)),
             Err(error) => Err(error),
         }
@@ -682,7 +724,7 @@ impl WayRonWriter {
     {
         s.st_pre()?;
         let inner = d.saturating_add(1);
-        append_required(alloc, "minutes", &value.minutes, inner, s)?;
+        nano_ron_nested::append_required(alloc, "minutes", &value.minutes, inner, s)?;
         nano_ron_nested::append_required_within(alloc, "guide", &value.guide, inner, s)?;
         s.st_post(d)
     }
@@ -712,7 +754,13 @@ impl ReadsRon<Way> for Levels {
         state: &mut DeRonState,
         input: &mut Chars<'_>,
     ) -> Result<Way, DeRonErr> {
-        match read_record_ron_within::<Levels, WayFields>(self, left, alloc, state, input) {
+        match nano_ron_nested::read_record_ron_within::<Levels, WayFields>(
+            self,
+            left,
+            alloc,
+            state,
+            input,
+        ) {
             Ok(values) => Ok(Way::make(values)),
             Err(error) => Err(error),
         }

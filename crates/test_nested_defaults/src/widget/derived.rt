@@ -1,49 +1,37 @@
 //! Written by derive_files: how the types of the module above are encoded.
 
-ghost use Rattle.std.specs.Prelude.{codes, ◌==◌, if◌then◌else◌, pos, neg_ℤ, true, refl, OnOk};
-ghost use Rattle.std.specs.Prelude.{OnErr};
-ghost use Rattle.nano_schema.specs.UserTypes.{text, whole, number, truth, agreed};
+ghost use Rattle.std.specs.Prelude.{codes, ◌==◌, if◌then◌else◌, refl, OnOk, OnErr};
+ghost use Rattle.nano_schema.specs.UserTypes.{text, agreed};
 ghost use Rattle.nano_text.specs.Outcomes.{Appends, AppendsPart};
 
 use super::*;
-use nano_bin::append_part;
-use nano_bin_nested::{ReadsBin, WritesBin, append_part_within, no_memory, read_record_within};
+use nano_bin_nested::{ReadsBin, WritesBin};
 use nano_bin_schema::{BinCodec, DeBin, DeBinErr, SerBin};
-use nano_json_nested::{
-    NestedJson, ReadsJson, WritesJson, append_required_within, no_levels, read_record_json_within,
-    rollback_on_error, too_deep,
-};
+use nano_json_nested::{NestedJson, ReadsJson, WritesJson};
 use nano_json_schema::{
-    DeJson, DeJsonErr, DeJsonState, JsonCodec, JsonDefaultOf, JsonRefs, SerJson, SerJsonState,
+    DeJson, DeJsonErr, DeJsonState, JsonCodec, JsonRefs, SerJson, SerJsonState,
 };
 use nano_levels::{Levels, Other, Within};
-use nano_ron_nested::{NestedRon, ReadsRon, WritesRon, append_required, read_record_ron_within};
-use nano_ron_schema::{DeRon, DeRonErr, DeRonState, RonCodec, RonDefaultOf, SerRon, SerRonState};
-use nano_schema::{DefaultOf, Defaulted, Label, Required, StructSchema, TypeDefault, Value};
+use nano_ron_nested::{NestedRon, ReadsRon, WritesRon};
+use nano_ron_schema::{DeRon, DeRonErr, DeRonState, RonCodec, SerRon, SerRonState};
+use nano_schema::{
+    DefaultBool, DefaultI32, DefaultOf, DefaultU16, Defaulted, Label, Required, StructSchema,
+    TypeDefault, Value,
+};
 use std::alloc::{AllocError, Global};
 use std::str::Chars;
 
 struct WidgetNames<const I: usize> {}
 
 impl<const I: usize> Label for WidgetNames<I> {
-    ghost label = { if I == 0 then codes "title"
-        else if I == 1 then codes "shortcut"
-        else if I == 2 then codes "width"
-        else if I == 3 then codes "row"
-        else if I == 4 then codes "is_open"
-        else if I == 5 then codes "entries"
+    ghost label = { if I == 0 then codes "title" else if I == 1 then codes "shortcut"
+        else if I == 2 then codes "width" else if I == 3 then codes "row"
+        else if I == 4 then codes "is_open" else if I == 5 then codes "entries"
         else codes "others" };
 
     fn text() -> &'static str {
-        match I {
-            0 => "title",
-            1 => "shortcut",
-            2 => "width",
-            3 => "row",
-            4 => "is_open",
-            5 => "entries",
-            _ => "others",
-        }
+        nano_schema::name_of!(I, 0 => "title", 1 => "shortcut", 2 => "width", 3 => "row",
+            4 => "is_open", 5 => "entries", _ => "others")
     }
 }
 
@@ -58,83 +46,18 @@ impl DefaultOf<String> for WidgetShortcutDefault {
     }
 }
 
-impl JsonDefaultOf<String> for WidgetShortcutDefault {
-    ghost is_sound = { λ x e. tt };
-}
-
-impl RonDefaultOf<String> for WidgetShortcutDefault {
-    ghost is_sound = { λ x e. tt };
-}
-
-/// The default of `width`.
-struct WidgetWidthDefault {}
-
-impl DefaultOf<u16> for WidgetWidthDefault {
-    ghost missing = { whole 80 };
-
-    fn default(_alloc: Global) -> Result<u16, AllocError> {
-        Ok(80)
-    }
-}
-
-impl JsonDefaultOf<u16> for WidgetWidthDefault {
-    ghost is_sound = { λ x e. tt };
-}
-
-impl RonDefaultOf<u16> for WidgetWidthDefault {
-    ghost is_sound = { λ x e. tt };
-}
-
-/// The default of `row`.
-struct WidgetRowDefault {}
-
-impl DefaultOf<i32> for WidgetRowDefault {
-    ghost missing = { number (neg_ℤ (pos 1)) };
-
-    fn default(_alloc: Global) -> Result<i32, AllocError> {
-        Ok(-1)
-    }
-}
-
-impl JsonDefaultOf<i32> for WidgetRowDefault {
-    ghost is_sound = { λ x e. tt };
-}
-
-impl RonDefaultOf<i32> for WidgetRowDefault {
-    ghost is_sound = { λ x e. tt };
-}
-
-/// The default of `is_open`.
-struct WidgetIsOpenDefault {}
-
-impl DefaultOf<bool> for WidgetIsOpenDefault {
-    ghost missing = { truth true };
-
-    fn default(_alloc: Global) -> Result<bool, AllocError> {
-        Ok(true)
-    }
-}
-
-impl JsonDefaultOf<bool> for WidgetIsOpenDefault {
-    ghost is_sound = { λ x e. tt };
-}
-
-impl RonDefaultOf<bool> for WidgetIsOpenDefault {
-    ghost is_sound = { λ x e. tt };
-}
-
 type WidgetFields = (
     (
         Other<Required<WidgetNames<0>, String>>,
         (
             Other<Defaulted<WidgetNames<1>, String, WidgetShortcutDefault>>,
-            Other<Defaulted<WidgetNames<2>, u16, WidgetWidthDefault>>,
+            Other<Defaulted<WidgetNames<2>, u16, DefaultU16<80>>>,
         ),
     ),
     (
         (
-            Other<Defaulted<WidgetNames<3>, i32, WidgetRowDefault>>,
-            Other<Defaulted<WidgetNames<4>, bool, WidgetIsOpenDefault>>,
+            Other<Defaulted<WidgetNames<3>, i32, DefaultI32<-1>>>,
+            Other<Defaulted<WidgetNames<4>, bool, DefaultBool<true>>>,
         ),
         (
             Within<Defaulted<WidgetNames<5>, Vec<Widget>, TypeDefault>>,
@@ -201,12 +124,12 @@ impl WritesBin for Widget {
     fn write_bin(&self, alloc: Global, output: &mut Vec<u8>) -> Result<(), AllocError> {
         let start = output.len();
         SerBin::ser_bin(&self.title, alloc, output)?;
-        append_part(alloc, &self.shortcut, output, start)?;
-        append_part(alloc, &self.width, output, start)?;
-        append_part(alloc, &self.row, output, start)?;
-        append_part(alloc, &self.is_open, output, start)?;
-        append_part_within(alloc, &self.entries, output, start)?;
-        append_part_within(alloc, &self.others, output, start)
+        nano_bin::append_part(alloc, &self.shortcut, output, start)?;
+        nano_bin::append_part(alloc, &self.width, output, start)?;
+        nano_bin::append_part(alloc, &self.row, output, start)?;
+        nano_bin::append_part(alloc, &self.is_open, output, start)?;
+        nano_bin_nested::append_part_within(alloc, &self.entries, output, start)?;
+        nano_bin_nested::append_part_within(alloc, &self.others, output, start)
     }
 }
 
@@ -225,12 +148,14 @@ impl ReadsBin<Widget> for Levels {
         bytes: &[u8],
     ) -> Result<Widget, DeBinErr> {
         let Levels::More(below) = self else {
-            return Err(no_memory(*offset, bytes));
+            return Err(nano_bin_nested::no_memory(*offset, bytes));
         };
         let Some(below) = below.first() else {
-            return Err(no_memory(*offset, bytes));
+            return Err(nano_bin_nested::no_memory(*offset, bytes));
         };
-        read_record_within::<Levels, Widget, WidgetFields>(below, alloc, offset, bytes)
+        nano_bin_nested::read_record_within::<Levels, Widget, WidgetFields>(
+            below, alloc, offset, bytes,
+        )
     }
 }
 
@@ -317,7 +242,7 @@ impl WidgetJsonWriter {
             inner,
             s,
         )?;
-        let others_is_first = append_required_within(
+        let others_is_first = nano_json_nested::append_required_within(
             alloc,
             "entries",
             &value.entries,
@@ -325,7 +250,14 @@ impl WidgetJsonWriter {
             inner,
             s,
         )?;
-        append_required_within(alloc, "others", &value.others, others_is_first, inner, s)?;
+        nano_json_nested::append_required_within(
+            alloc,
+            "others",
+            &value.others,
+            others_is_first,
+            inner,
+            s,
+        )?;
         s.st_post(d)
     }
 }
@@ -335,7 +267,7 @@ impl WritesJson for Widget {
     fn write_json(&self, alloc: Global, d: usize, s: &mut SerJsonState) -> Result<(), AllocError> {
         let start = s.out.len();
         let written = WidgetJsonWriter::append_record(self, alloc, d, s);
-        rollback_on_error(&mut s.out, start, written)
+        nano_json_nested::rollback_on_error(&mut s.out, start, written)
     }
 }
 
@@ -355,15 +287,15 @@ impl ReadsJson<Widget> for Levels {
         input: &mut Chars<'_>,
     ) -> Result<Widget, DeJsonErr> {
         if left == 0 {
-            return Err(too_deep(alloc, state));
+            return Err(nano_json_nested::too_deep(alloc, state));
         }
         let Levels::More(below) = self else {
-            return Err(no_levels(alloc, state));
+            return Err(nano_json_nested::no_levels(alloc, state));
         };
         let Some(below) = below.first() else {
-            return Err(no_levels(alloc, state));
+            return Err(nano_json_nested::no_levels(alloc, state));
         };
-        match read_record_json_within::<Levels, WidgetFields>(
+        match nano_json_nested::read_record_json_within::<Levels, WidgetFields>(
             below,
             left - 1,
             alloc,
@@ -426,11 +358,11 @@ impl WidgetRonWriter {
     {
         s.st_pre()?;
         let inner = d.saturating_add(1);
-        append_required(alloc, "title", &value.title, inner, s)?;
-        append_required(alloc, "shortcut", &value.shortcut, inner, s)?;
-        append_required(alloc, "width", &value.width, inner, s)?;
-        append_required(alloc, "row", &value.row, inner, s)?;
-        append_required(alloc, "is_open", &value.is_open, inner, s)?;
+        nano_ron_nested::append_required(alloc, "title", &value.title, inner, s)?;
+        nano_ron_nested::append_required(alloc, "shortcut", &value.shortcut, inner, s)?;
+        nano_ron_nested::append_required(alloc, "width", &value.width, inner, s)?;
+        nano_ron_nested::append_required(alloc, "row", &value.row, inner, s)?;
+        nano_ron_nested::append_required(alloc, "is_open", &value.is_open, inner, s)?;
         nano_ron_nested::append_required_within(alloc, "entries", &value.entries, inner, s)?;
         nano_ron_nested::append_required_within(alloc, "others", &value.others, inner, s)?;
         s.st_post(d)
@@ -470,7 +402,13 @@ impl ReadsRon<Widget> for Levels {
         let Some(below) = below.first() else {
             return Err(nano_ron_nested::no_levels(alloc, state));
         };
-        match read_record_ron_within::<Levels, WidgetFields>(below, left - 1, alloc, state, input) {
+        match nano_ron_nested::read_record_ron_within::<Levels, WidgetFields>(
+            below,
+            left - 1,
+            alloc,
+            state,
+            input,
+        ) {
             Ok(values) => Ok(Widget::make(values)),
             Err(error) => Err(error),
         }

@@ -6,20 +6,12 @@ ghost use Rattle.nano_text.specs.Outcomes.{Appends, AppendsPart, Unchanged};
 ghost use Rattle.nano_json_schema.specs.Variants.{content_text};
 
 use super::*;
-use nano_bin_nested::{
-    ReadsBin, WritesBin, append_part_within, append_variant, append_variant_within, no_memory,
-    read_choice_within,
-};
+use nano_bin_nested::{ReadsBin, WritesBin};
 use nano_bin_schema::{BinCodec, DeBin, DeBinErr, SerBin};
-use nano_json_nested::{
-    NestedJson, ReadsJson, WritesJson, append_optional_within, append_required_within, no_levels,
-    read_choice_json_within, rollback_on_error, too_many_levels, write_variant_other,
-};
-use nano_json_schema::{
-    DeJson, DeJsonErr, DeJsonState, JsonCodec, SerJson, SerJsonState, write_unit_variant,
-};
+use nano_json_nested::{NestedJson, ReadsJson, WritesJson};
+use nano_json_schema::{DeJson, DeJsonErr, DeJsonState, JsonCodec, SerJson, SerJsonState};
 use nano_levels::{Levels, Other, Within};
-use nano_ron_nested::{NestedRon, ReadsRon, WritesRon, read_choice_ron_within};
+use nano_ron_nested::{NestedRon, ReadsRon, WritesRon};
 use nano_ron_schema::{DeRon, DeRonErr, DeRonState, RonCodec, SerRon, SerRonState};
 use nano_schema::{
     Either, EnumSchema, Label, Newtype, Optional, Required, Struct, Unit, Value, Variant,
@@ -30,32 +22,22 @@ use std::str::Chars;
 struct RuleNames<const I: usize> {}
 
 impl<const I: usize> Label for RuleNames<I> {
-    ghost label = { if I == 0 then codes "Always"
-        else if I == 1 then codes "From"
+    ghost label = { if I == 0 then codes "Always" else if I == 1 then codes "From"
         else codes "When" };
 
     fn text() -> &'static str {
-        match I {
-            0 => "Always",
-            1 => "From",
-            _ => "When",
-        }
+        nano_schema::name_of!(I, 0 => "Always", 1 => "From", _ => "When")
     }
 }
 
 struct RuleWhenNames<const I: usize> {}
 
 impl<const I: usize> Label for RuleWhenNames<I> {
-    ghost label = { if I == 0 then codes "condition"
-        else if I == 1 then codes "then"
+    ghost label = { if I == 0 then codes "condition" else if I == 1 then codes "then"
         else codes "otherwise" };
 
     fn text() -> &'static str {
-        match I {
-            0 => "condition",
-            1 => "then",
-            _ => "otherwise",
-        }
+        nano_schema::name_of!(I, 0 => "condition", 1 => "then", _ => "otherwise")
     }
 }
 
@@ -150,16 +132,16 @@ impl WritesBin for Rule {
     fn write_bin(&self, alloc: Global, output: &mut Vec<u8>) -> Result<(), AllocError> {
         let start = output.len();
         match self {
-            Self::Always => append_variant(alloc, 0, &(), output),
-            Self::From(first) => append_variant(alloc, 1, first, output),
+            Self::Always => nano_bin_nested::append_variant(alloc, 0, &(), output),
+            Self::From(first) => nano_bin_nested::append_variant(alloc, 1, first, output),
             Self::When {
                 condition,
                 then,
                 otherwise,
             } => {
-                append_variant_within(alloc, 2, condition, output)?;
-                append_part_within(alloc, then, output, start)?;
-                append_part_within(alloc, otherwise, output, start)
+                nano_bin_nested::append_variant_within(alloc, 2, condition, output)?;
+                nano_bin_nested::append_part_within(alloc, then, output, start)?;
+                nano_bin_nested::append_part_within(alloc, otherwise, output, start)
             }
         }
     }
@@ -175,12 +157,14 @@ impl ReadsBin<Rule> for Levels {
     #[cycle(read)]
     fn read_bin(&self, alloc: Global, offset: &mut usize, bytes: &[u8]) -> Result<Rule, DeBinErr> {
         let Levels::More(below) = self else {
-            return Err(no_memory(*offset, bytes));
+            return Err(nano_bin_nested::no_memory(*offset, bytes));
         };
         let Some(below) = below.first() else {
-            return Err(no_memory(*offset, bytes));
+            return Err(nano_bin_nested::no_memory(*offset, bytes));
         };
-        read_choice_within::<Levels, Rule, RuleVariants>(below, alloc, offset, bytes)
+        nano_bin_nested::read_choice_within::<Levels, Rule, RuleVariants>(
+            below, alloc, offset, bytes,
+        )
     }
 }
 
@@ -237,8 +221,15 @@ impl RuleJsonWriter {
     {
         s.st_pre()?;
         let inner = d.saturating_add(1);
-        let then_is_first = append_required_within(alloc, "condition", v0, true, inner, s)?;
-        let otherwise_is_first = append_required_within(
+        let then_is_first = nano_json_nested::append_required_within(
+            alloc,
+            "condition",
+            v0,
+            true,
+            inner,
+            s,
+        )?;
+        let otherwise_is_first = nano_json_nested::append_required_within(
             alloc,
             "then",
             v1,
@@ -246,7 +237,14 @@ impl RuleJsonWriter {
             inner,
             s,
         )?;
-        append_optional_within(alloc, "otherwise", v2, otherwise_is_first, inner, s)?;
+        nano_json_nested::append_optional_within(
+            alloc,
+            "otherwise",
+            v2,
+            otherwise_is_first,
+            inner,
+            s,
+        )?;
         s.st_post(d)
     }
 
@@ -293,7 +291,7 @@ impl RuleJsonWriter {
     {
         let start = s.out.len();
         let written = Self::append_when(value, v0, v1, v2, alloc, d, s);
-        rollback_on_error(&mut s.out, start, written)
+        nano_json_nested::rollback_on_error(&mut s.out, start, written)
     }
 }
 
@@ -302,8 +300,8 @@ impl WritesJson for Rule {
     #[tactic(auto, using(crate::proofs::RuleJsonCodecsLaws::rule_json_texts))]
     fn write_json(&self, alloc: Global, d: usize, s: &mut SerJsonState) -> Result<(), AllocError> {
         match self {
-            Self::Always => write_unit_variant(alloc, "Always", s),
-            Self::From(first) => write_variant_other(alloc, "From", first, d, s),
+            Self::Always => nano_json_schema::write_unit_variant(alloc, "Always", s),
+            Self::From(first) => nano_json_nested::write_variant_other(alloc, "From", first, d, s),
             Self::When {
                 condition: v0,
                 then: v1,
@@ -329,15 +327,15 @@ impl ReadsJson<Rule> for Levels {
         input: &mut Chars<'_>,
     ) -> Result<Rule, DeJsonErr> {
         if left == 0 {
-            return Err(too_many_levels(alloc, 5, state));
+            return Err(nano_json_nested::too_many_levels(alloc, 5, state));
         }
         let Levels::More(below) = self else {
-            return Err(no_levels(alloc, state));
+            return Err(nano_json_nested::no_levels(alloc, state));
         };
         let Some(below) = below.first() else {
-            return Err(no_levels(alloc, state));
+            return Err(nano_json_nested::no_levels(alloc, state));
         };
-        match read_choice_json_within::<Levels, RuleVariants>(
+        match nano_json_nested::read_choice_json_within::<Levels, RuleVariants>(
             below,
             left - 1,
             alloc,
@@ -474,7 +472,13 @@ impl ReadsRon<Rule> for Levels {
         let Some(below) = below.first() else {
             return Err(nano_ron_nested::no_levels(alloc, state));
         };
-        match read_choice_ron_within::<Levels, RuleVariants>(below, left - 1, alloc, state, input) {
+        match nano_ron_nested::read_choice_ron_within::<Levels, RuleVariants>(
+            below,
+            left - 1,
+            alloc,
+            state,
+            input,
+        ) {
             Ok(values) => Ok(Rule::make(values)),
             Err(error) => Err(error),
         }

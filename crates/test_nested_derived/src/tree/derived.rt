@@ -4,17 +4,12 @@ ghost use Rattle.std.specs.Prelude.{codes, ◌==◌, if◌then◌else◌, refl};
 ghost use Rattle.nano_schema.specs.UserTypes.{agreed};
 
 use super::*;
-use nano_bin_nested::{
-    ReadsBin, WritesBin, append_variant, append_variant_within, no_memory, read_choice_within,
-};
+use nano_bin_nested::{ReadsBin, WritesBin};
 use nano_bin_schema::{BinCodec, DeBin, DeBinErr, SerBin};
-use nano_json_nested::{
-    NestedJson, ReadsJson, WritesJson, no_levels, read_choice_json_within, too_deep,
-    write_variant_other, write_variant_within,
-};
+use nano_json_nested::{NestedJson, ReadsJson, WritesJson};
 use nano_json_schema::{DeJson, DeJsonErr, DeJsonState, JsonCodec, SerJson, SerJsonState};
 use nano_levels::{Levels, Other, Within};
-use nano_ron_nested::{NestedRon, ReadsRon, WritesRon, read_choice_ron_within};
+use nano_ron_nested::{NestedRon, ReadsRon, WritesRon};
 use nano_ron_schema::{DeRon, DeRonErr, DeRonState, RonCodec, SerRon, SerRonState};
 use nano_schema::{Either, EnumSchema, Label, Newtype, Value, Variant};
 use std::alloc::{AllocError, Global};
@@ -23,14 +18,10 @@ use std::str::Chars;
 struct TreeNames<const I: usize> {}
 
 impl<const I: usize> Label for TreeNames<I> {
-    ghost label = { if I == 0 then codes "Leaf"
-        else codes "Node" };
+    ghost label = { if I == 0 then codes "Leaf" else codes "Node" };
 
     fn text() -> &'static str {
-        match I {
-            0 => "Leaf",
-            _ => "Node",
-        }
+        nano_schema::name_of!(I, 0 => "Leaf", _ => "Node")
     }
 }
 
@@ -92,8 +83,8 @@ impl WritesBin for Tree {
     #[tactic(auto, using(crate::proofs::TreeCodecsLaws::tree_written_laws))]
     fn write_bin(&self, alloc: Global, output: &mut Vec<u8>) -> Result<(), AllocError> {
         match self {
-            Self::Leaf(first) => append_variant(alloc, 0, first, output),
-            Self::Node(first) => append_variant_within(alloc, 1, first, output),
+            Self::Leaf(first) => nano_bin_nested::append_variant(alloc, 0, first, output),
+            Self::Node(first) => nano_bin_nested::append_variant_within(alloc, 1, first, output),
         }
     }
 }
@@ -108,12 +99,14 @@ impl ReadsBin<Tree> for Levels {
     #[cycle(read)]
     fn read_bin(&self, alloc: Global, offset: &mut usize, bytes: &[u8]) -> Result<Tree, DeBinErr> {
         let Levels::More(below) = self else {
-            return Err(no_memory(*offset, bytes));
+            return Err(nano_bin_nested::no_memory(*offset, bytes));
         };
         let Some(below) = below.first() else {
-            return Err(no_memory(*offset, bytes));
+            return Err(nano_bin_nested::no_memory(*offset, bytes));
         };
-        read_choice_within::<Levels, Tree, TreeVariants>(below, alloc, offset, bytes)
+        nano_bin_nested::read_choice_within::<Levels, Tree, TreeVariants>(
+            below, alloc, offset, bytes,
+        )
     }
 }
 
@@ -149,8 +142,8 @@ impl WritesJson for Tree {
     #[tactic(auto, using(crate::proofs::TreeJsonCodecsLaws::tree_json_texts))]
     fn write_json(&self, alloc: Global, d: usize, s: &mut SerJsonState) -> Result<(), AllocError> {
         match self {
-            Self::Leaf(first) => write_variant_other(alloc, "Leaf", first, d, s),
-            Self::Node(first) => write_variant_within(alloc, "Node", first, d, s),
+            Self::Leaf(first) => nano_json_nested::write_variant_other(alloc, "Leaf", first, d, s),
+            Self::Node(first) => nano_json_nested::write_variant_within(alloc, "Node", first, d, s),
         }
     }
 }
@@ -171,15 +164,15 @@ impl ReadsJson<Tree> for Levels {
         input: &mut Chars<'_>,
     ) -> Result<Tree, DeJsonErr> {
         if left == 0 {
-            return Err(too_deep(alloc, state));
+            return Err(nano_json_nested::too_deep(alloc, state));
         }
         let Levels::More(below) = self else {
-            return Err(no_levels(alloc, state));
+            return Err(nano_json_nested::no_levels(alloc, state));
         };
         let Some(below) = below.first() else {
-            return Err(no_levels(alloc, state));
+            return Err(nano_json_nested::no_levels(alloc, state));
         };
-        match read_choice_json_within::<Levels, TreeVariants>(
+        match nano_json_nested::read_choice_json_within::<Levels, TreeVariants>(
             below,
             left - 1,
             alloc,
@@ -256,7 +249,13 @@ impl ReadsRon<Tree> for Levels {
         let Some(below) = below.first() else {
             return Err(nano_ron_nested::no_levels(alloc, state));
         };
-        match read_choice_ron_within::<Levels, TreeVariants>(below, left - 1, alloc, state, input) {
+        match nano_ron_nested::read_choice_ron_within::<Levels, TreeVariants>(
+            below,
+            left - 1,
+            alloc,
+            state,
+            input,
+        ) {
             Ok(values) => Ok(Tree::make(values)),
             Err(error) => Err(error),
         }

@@ -5,17 +5,12 @@ ghost use Rattle.nano_text.specs.Outcomes.{Appends, AppendsPart};
 ghost use Rattle.nano_schema.specs.UserTypes.{agreed};
 
 use super::*;
-use nano_json_nested::{
-    NestedJson, ReadsJson, WritesJson, append_optional_within, append_required_within, no_levels,
-    read_record_json_within, rollback_on_error, too_deep,
-};
+use nano_json_nested::{NestedJson, ReadsJson, WritesJson};
 use nano_json_schema::{
     DeJson, DeJsonErr, DeJsonState, JsonCodec, JsonRefs, SerJson, SerJsonState,
 };
 use nano_levels::{Levels, Other, Within};
-use nano_ron_nested::{
-    NestedRon, ReadsRon, WritesRon, append_optional, append_required, read_record_ron_within,
-};
+use nano_ron_nested::{NestedRon, ReadsRon, WritesRon};
 use nano_ron_schema::{DeRon, DeRonErr, DeRonState, RonCodec, SerRon, SerRonState};
 use nano_schema::{Label, Optional, Required, StructSchema, Value};
 use std::alloc::{AllocError, Global};
@@ -24,22 +19,13 @@ use std::str::Chars;
 struct CommentNames<const I: usize> {}
 
 impl<const I: usize> Label for CommentNames<I> {
-    ghost label = { if I == 0 then codes "author"
-        else if I == 1 then codes "text"
-        else if I == 2 then codes "votes"
-        else if I == 3 then codes "pinned"
-        else if I == 4 then codes "quoted"
-        else codes "answers" };
+    ghost label = { if I == 0 then codes "author" else if I == 1 then codes "text"
+        else if I == 2 then codes "votes" else if I == 3 then codes "pinned"
+        else if I == 4 then codes "quoted" else codes "answers" };
 
     fn text() -> &'static str {
-        match I {
-            0 => "author",
-            1 => "text",
-            2 => "votes",
-            3 => "pinned",
-            4 => "quoted",
-            _ => "answers",
-        }
+        nano_schema::name_of!(I, 0 => "author", 1 => "text", 2 => "votes", 3 => "pinned",
+            4 => "quoted", _ => "answers")
     }
 }
 
@@ -169,7 +155,7 @@ impl CommentJsonWriter {
             inner,
             s,
         )?;
-        let answers_is_first = append_optional_within(
+        let answers_is_first = nano_json_nested::append_optional_within(
             alloc,
             "quoted",
             &value.quoted,
@@ -177,7 +163,14 @@ impl CommentJsonWriter {
             inner,
             s,
         )?;
-        append_required_within(alloc, "answers", &value.answers, answers_is_first, inner, s)?;
+        nano_json_nested::append_required_within(
+            alloc,
+            "answers",
+            &value.answers,
+            answers_is_first,
+            inner,
+            s,
+        )?;
         s.st_post(d)
     }
 }
@@ -187,7 +180,7 @@ impl WritesJson for Comment {
     fn write_json(&self, alloc: Global, d: usize, s: &mut SerJsonState) -> Result<(), AllocError> {
         let start = s.out.len();
         let written = CommentJsonWriter::append_record(self, alloc, d, s);
-        rollback_on_error(&mut s.out, start, written)
+        nano_json_nested::rollback_on_error(&mut s.out, start, written)
     }
 }
 
@@ -207,15 +200,15 @@ impl ReadsJson<Comment> for Levels {
         input: &mut Chars<'_>,
     ) -> Result<Comment, DeJsonErr> {
         if left == 0 {
-            return Err(too_deep(alloc, state));
+            return Err(nano_json_nested::too_deep(alloc, state));
         }
         let Levels::More(below) = self else {
-            return Err(no_levels(alloc, state));
+            return Err(nano_json_nested::no_levels(alloc, state));
         };
         let Some(below) = below.first() else {
-            return Err(no_levels(alloc, state));
+            return Err(nano_json_nested::no_levels(alloc, state));
         };
-        match read_record_json_within::<Levels, CommentFields>(
+        match nano_json_nested::read_record_json_within::<Levels, CommentFields>(
             below,
             left - 1,
             alloc,
@@ -278,10 +271,10 @@ impl CommentRonWriter {
     {
         s.st_pre()?;
         let inner = d.saturating_add(1);
-        append_required(alloc, "author", &value.author, inner, s)?;
-        append_required(alloc, "text", &value.text, inner, s)?;
-        append_required(alloc, "votes", &value.votes, inner, s)?;
-        append_optional(alloc, "pinned", &value.pinned, inner, s)?;
+        nano_ron_nested::append_required(alloc, "author", &value.author, inner, s)?;
+        nano_ron_nested::append_required(alloc, "text", &value.text, inner, s)?;
+        nano_ron_nested::append_required(alloc, "votes", &value.votes, inner, s)?;
+        nano_ron_nested::append_optional(alloc, "pinned", &value.pinned, inner, s)?;
         nano_ron_nested::append_optional_within(alloc, "quoted", &value.quoted, inner, s)?;
         nano_ron_nested::append_required_within(alloc, "answers", &value.answers, inner, s)?;
         s.st_post(d)
@@ -321,7 +314,7 @@ impl ReadsRon<Comment> for Levels {
         let Some(below) = below.first() else {
             return Err(nano_ron_nested::no_levels(alloc, state));
         };
-        match read_record_ron_within::<Levels, CommentFields>(
+        match nano_ron_nested::read_record_ron_within::<Levels, CommentFields>(
             below,
             left - 1,
             alloc,

@@ -10,32 +10,21 @@ ghost use Rattle.nano_text.specs.Outcomes.{Appends, AppendsPart, Unchanged};
 ghost use Rattle.nano_json_schema.specs.Variants.{content_text};
 
 use super::*;
-use nano_bin_nested::{
-    ReadsBin, WritesBin, append_part_within, append_variant, no_memory, read_choice_within,
-    read_record_within,
-};
-use nano_bin_schema::{
-    BinCodec, BinShapes, DeBin, DeBinErr, SerBin, read_choice_bin, write_choice_bin,
-};
-use nano_json_nested::{
-    NestedJson, ReadsJson, WritesJson, append_required_within, no_levels, read_choice_json_within,
-    read_record_json_within, rollback_on_error, too_deep,
-};
+use nano_bin_nested::{ReadsBin, WritesBin};
+use nano_bin_schema::{BinCodec, BinShapes, DeBin, DeBinErr, SerBin};
+use nano_json_nested::{NestedJson, ReadsJson, WritesJson};
 use nano_json_schema::{
     DeJson, DeJsonErr, DeJsonState, JsonCodec, JsonRefs, JsonResult, JsonShapes, SerJson,
-    SerJsonState, read_choice_json, write_choice_json, write_unit_variant,
+    SerJsonState,
 };
 use nano_levels::{Levels, Other, Within};
-use nano_ron_nested::{
-    NestedRon, ReadsRon, WritesRon, append_required, read_choice_ron_within, read_record_ron_within,
-};
+use nano_ron_nested::{NestedRon, ReadsRon, WritesRon};
 use nano_ron_schema::{
     DeRon, DeRonErr, DeRonState, RonCodec, RonResult, RonShapes, SerRon, SerRonState,
-    read_choice_ron, write_choice_ron,
 };
 use nano_schema::{
     BorrowedChoices, Choices, Either, EnumSchema, Label, Newtype, Required, Struct, StructSchema,
-    Unit, Value, Variant, VariantRefs, known_variant,
+    Unit, Value, Variant, VariantRefs,
 };
 use std::alloc::{AllocError, Global};
 use std::str::Chars;
@@ -43,14 +32,10 @@ use std::str::Chars;
 struct WeatherNames<const I: usize> {}
 
 impl<const I: usize> Label for WeatherNames<I> {
-    ghost label = { if I == 0 then codes "Dry"
-        else codes "Rain" };
+    ghost label = { if I == 0 then codes "Dry" else codes "Rain" };
 
     fn text() -> &'static str {
-        match I {
-            0 => "Dry",
-            _ => "Rain",
-        }
+        nano_schema::name_of!(I, 0 => "Dry", _ => "Rain")
     }
 }
 
@@ -117,11 +102,9 @@ impl Value for Weather {
     ghost legal = { LegalVariant ⟦<WeatherVariants as Choices>⟧.legals };
 
     fn known(&self) {
-        known_variant::<Self, WeatherVariants>(self);
+        nano_schema::known_variant::<Self, WeatherVariants>(self);
     }
 }
-
-// ---- bytes
 
 impl BinCodec for Weather {
     ghost bin = { bin_choice ⟦<Weather as EnumSchema>⟧.view
@@ -132,7 +115,7 @@ impl BinCodec for Weather {
 
 impl SerBin for Weather {
     fn ser_bin(&self, alloc: Global, output: &mut Vec<u8>) -> Result<(), AllocError> {
-        write_choice_bin::<Self, WeatherVariants>(self, alloc, output)
+        nano_bin_schema::write_choice_bin::<Self, WeatherVariants>(self, alloc, output)
     }
 }
 
@@ -140,11 +123,9 @@ impl DeBin for Weather {
     ghost is_decodable = { refl };
 
     fn de_bin(alloc: Global, offset: &mut usize, bytes: &[u8]) -> Result<Self, DeBinErr> {
-        read_choice_bin::<Self, WeatherVariants>(alloc, offset, bytes)
+        nano_bin_schema::read_choice_bin::<Self, WeatherVariants>(alloc, offset, bytes)
     }
 }
-
-// ---- JSON
 
 impl JsonCodec for Weather {
     ghost json = { json_choice ⟦<Weather as EnumSchema>⟧.view
@@ -155,17 +136,15 @@ impl JsonCodec for Weather {
 
 impl SerJson for Weather {
     fn ser_json(&self, alloc: Global, d: usize, s: &mut SerJsonState) -> Result<(), AllocError> {
-        write_choice_json::<Self, WeatherVariants>(self, alloc, d, s)
+        nano_json_schema::write_choice_json::<Self, WeatherVariants>(self, alloc, d, s)
     }
 }
 
 impl DeJson for Weather {
     fn de_json(alloc: Global, state: &mut DeJsonState, input: &mut Chars<'_>) -> JsonResult<Self> {
-        read_choice_json::<Self, WeatherVariants>(alloc, state, input)
+        nano_json_schema::read_choice_json::<Self, WeatherVariants>(alloc, state, input)
     }
 }
-
-// ---- RON
 
 impl RonCodec for Weather {
     ghost ron = { ron_choice ⟦<Weather as EnumSchema>⟧.view
@@ -176,27 +155,23 @@ impl RonCodec for Weather {
 
 impl SerRon for Weather {
     fn ser_ron(&self, alloc: Global, d: usize, s: &mut SerRonState) -> Result<(), AllocError> {
-        write_choice_ron::<Self, WeatherVariants>(self, alloc, d, s)
+        nano_ron_schema::write_choice_ron::<Self, WeatherVariants>(self, alloc, d, s)
     }
 }
 
 impl DeRon for Weather {
     fn de_ron(alloc: Global, state: &mut DeRonState, input: &mut Chars<'_>) -> RonResult<Self> {
-        read_choice_ron::<Self, WeatherVariants>(alloc, state, input)
+        nano_ron_schema::read_choice_ron::<Self, WeatherVariants>(alloc, state, input)
     }
 }
 
 struct CampNames<const I: usize> {}
 
 impl<const I: usize> Label for CampNames<I> {
-    ghost label = { if I == 0 then codes "weather"
-        else codes "camps" };
+    ghost label = { if I == 0 then codes "weather" else codes "camps" };
 
     fn text() -> &'static str {
-        match I {
-            0 => "weather",
-            _ => "camps",
-        }
+        nano_schema::name_of!(I, 0 => "weather", _ => "camps")
     }
 }
 
@@ -247,7 +222,7 @@ impl WritesBin for Camp {
     fn write_bin(&self, alloc: Global, output: &mut Vec<u8>) -> Result<(), AllocError> {
         let start = output.len();
         SerBin::ser_bin(&self.weather, alloc, output)?;
-        append_part_within(alloc, &self.camps, output, start)
+        nano_bin_nested::append_part_within(alloc, &self.camps, output, start)
     }
 }
 
@@ -261,12 +236,12 @@ impl ReadsBin<Camp> for Levels {
     #[cycle(read)]
     fn read_bin(&self, alloc: Global, offset: &mut usize, bytes: &[u8]) -> Result<Camp, DeBinErr> {
         let Levels::More(below) = self else {
-            return Err(no_memory(*offset, bytes));
+            return Err(nano_bin_nested::no_memory(*offset, bytes));
         };
         let Some(below) = below.first() else {
-            return Err(no_memory(*offset, bytes));
+            return Err(nano_bin_nested::no_memory(*offset, bytes));
         };
-        read_record_within::<Levels, Camp, CampFields>(below, alloc, offset, bytes)
+        nano_bin_nested::read_record_within::<Levels, Camp, CampFields>(below, alloc, offset, bytes)
     }
 }
 
@@ -325,7 +300,14 @@ impl CampJsonWriter {
             inner,
             s,
         )?;
-        append_required_within(alloc, "camps", &value.camps, camps_is_first, inner, s)?;
+        nano_json_nested::append_required_within(
+            alloc,
+            "camps",
+            &value.camps,
+            camps_is_first,
+            inner,
+            s,
+        )?;
         s.st_post(d)
     }
 }
@@ -335,7 +317,7 @@ impl WritesJson for Camp {
     fn write_json(&self, alloc: Global, d: usize, s: &mut SerJsonState) -> Result<(), AllocError> {
         let start = s.out.len();
         let written = CampJsonWriter::append_record(self, alloc, d, s);
-        rollback_on_error(&mut s.out, start, written)
+        nano_json_nested::rollback_on_error(&mut s.out, start, written)
     }
 }
 
@@ -355,15 +337,21 @@ impl ReadsJson<Camp> for Levels {
         input: &mut Chars<'_>,
     ) -> Result<Camp, DeJsonErr> {
         if left == 0 {
-            return Err(too_deep(alloc, state));
+            return Err(nano_json_nested::too_deep(alloc, state));
         }
         let Levels::More(below) = self else {
-            return Err(no_levels(alloc, state));
+            return Err(nano_json_nested::no_levels(alloc, state));
         };
         let Some(below) = below.first() else {
-            return Err(no_levels(alloc, state));
+            return Err(nano_json_nested::no_levels(alloc, state));
         };
-        match read_record_json_within::<Levels, CampFields>(below, left - 1, alloc, state, input) {
+        match nano_json_nested::read_record_json_within::<Levels, CampFields>(
+            below,
+            left - 1,
+            alloc,
+            state,
+            input,
+        ) {
             Ok(values) => Ok(Camp::make(values)),
             Err(error) => Err(error),
         }
@@ -420,7 +408,7 @@ impl CampRonWriter {
     {
         s.st_pre()?;
         let inner = d.saturating_add(1);
-        append_required(alloc, "weather", &value.weather, inner, s)?;
+        nano_ron_nested::append_required(alloc, "weather", &value.weather, inner, s)?;
         nano_ron_nested::append_required_within(alloc, "camps", &value.camps, inner, s)?;
         s.st_post(d)
     }
@@ -459,7 +447,13 @@ impl ReadsRon<Camp> for Levels {
         let Some(below) = below.first() else {
             return Err(nano_ron_nested::no_levels(alloc, state));
         };
-        match read_record_ron_within::<Levels, CampFields>(below, left - 1, alloc, state, input) {
+        match nano_ron_nested::read_record_ron_within::<Levels, CampFields>(
+            below,
+            left - 1,
+            alloc,
+            state,
+            input,
+        ) {
             Ok(values) => Ok(Camp::make(values)),
             Err(error) => Err(error),
         }
@@ -480,28 +474,20 @@ impl DeRon for Camp {
 struct RouteNames<const I: usize> {}
 
 impl<const I: usize> Label for RouteNames<I> {
-    ghost label = { if I == 0 then codes "End"
-        else codes "Step" };
+    ghost label = { if I == 0 then codes "End" else codes "Step" };
 
     fn text() -> &'static str {
-        match I {
-            0 => "End",
-            _ => "Step",
-        }
+        nano_schema::name_of!(I, 0 => "End", _ => "Step")
     }
 }
 
 struct RouteStepNames<const I: usize> {}
 
 impl<const I: usize> Label for RouteStepNames<I> {
-    ghost label = { if I == 0 then codes "weather"
-        else codes "rest" };
+    ghost label = { if I == 0 then codes "weather" else codes "rest" };
 
     fn text() -> &'static str {
-        match I {
-            0 => "weather",
-            _ => "rest",
-        }
+        nano_schema::name_of!(I, 0 => "weather", _ => "rest")
     }
 }
 
@@ -572,10 +558,10 @@ impl WritesBin for Route {
     fn write_bin(&self, alloc: Global, output: &mut Vec<u8>) -> Result<(), AllocError> {
         let start = output.len();
         match self {
-            Self::End => append_variant(alloc, 0, &(), output),
+            Self::End => nano_bin_nested::append_variant(alloc, 0, &(), output),
             Self::Step { weather, rest } => {
-                append_variant(alloc, 1, weather, output)?;
-                append_part_within(alloc, rest, output, start)
+                nano_bin_nested::append_variant(alloc, 1, weather, output)?;
+                nano_bin_nested::append_part_within(alloc, rest, output, start)
             }
         }
     }
@@ -591,12 +577,14 @@ impl ReadsBin<Route> for Levels {
     #[cycle(read)]
     fn read_bin(&self, alloc: Global, offset: &mut usize, bytes: &[u8]) -> Result<Route, DeBinErr> {
         let Levels::More(below) = self else {
-            return Err(no_memory(*offset, bytes));
+            return Err(nano_bin_nested::no_memory(*offset, bytes));
         };
         let Some(below) = below.first() else {
-            return Err(no_memory(*offset, bytes));
+            return Err(nano_bin_nested::no_memory(*offset, bytes));
         };
-        read_choice_within::<Levels, Route, RouteVariants>(below, alloc, offset, bytes)
+        nano_bin_nested::read_choice_within::<Levels, Route, RouteVariants>(
+            below, alloc, offset, bytes,
+        )
     }
 }
 
@@ -655,7 +643,7 @@ impl RouteJsonWriter {
         let rest_is_first = Required::<RouteStepNames<0>, Weather>::append_fields(
             &v0, alloc, true, inner, s,
         )?;
-        append_required_within(alloc, "rest", v1, rest_is_first, inner, s)?;
+        nano_json_nested::append_required_within(alloc, "rest", v1, rest_is_first, inner, s)?;
         s.st_post(d)
     }
 
@@ -700,7 +688,7 @@ impl RouteJsonWriter {
     {
         let start = s.out.len();
         let written = Self::append_step(value, v0, v1, alloc, d, s);
-        rollback_on_error(&mut s.out, start, written)
+        nano_json_nested::rollback_on_error(&mut s.out, start, written)
     }
 }
 
@@ -709,7 +697,7 @@ impl WritesJson for Route {
     #[tactic(auto, using(crate::proofs::CampJsonCodecsLaws::route_json_texts))]
     fn write_json(&self, alloc: Global, d: usize, s: &mut SerJsonState) -> Result<(), AllocError> {
         match self {
-            Self::End => write_unit_variant(alloc, "End", s),
+            Self::End => nano_json_schema::write_unit_variant(alloc, "End", s),
             Self::Step {
                 weather: v0,
                 rest: v1,
@@ -734,15 +722,15 @@ impl ReadsJson<Route> for Levels {
         input: &mut Chars<'_>,
     ) -> Result<Route, DeJsonErr> {
         if left == 0 {
-            return Err(too_deep(alloc, state));
+            return Err(nano_json_nested::too_deep(alloc, state));
         }
         let Levels::More(below) = self else {
-            return Err(no_levels(alloc, state));
+            return Err(nano_json_nested::no_levels(alloc, state));
         };
         let Some(below) = below.first() else {
-            return Err(no_levels(alloc, state));
+            return Err(nano_json_nested::no_levels(alloc, state));
         };
-        match read_choice_json_within::<Levels, RouteVariants>(
+        match nano_json_nested::read_choice_json_within::<Levels, RouteVariants>(
             below,
             left - 1,
             alloc,
@@ -810,7 +798,7 @@ impl RouteRonWriter {
         nano_ron_schema::write_unit_variant("Step", s)?;
         s.st_pre()?;
         let inner = d.saturating_add(1);
-        append_required(alloc, "weather", v0, inner, s)?;
+        nano_ron_nested::append_required(alloc, "weather", v0, inner, s)?;
         nano_ron_nested::append_required_within(alloc, "rest", v1, inner, s)?;
         s.st_post(d)
     }
@@ -874,7 +862,7 @@ impl ReadsRon<Route> for Levels {
         let Some(below) = below.first() else {
             return Err(nano_ron_nested::no_levels(alloc, state));
         };
-        match read_choice_ron_within::<Levels, RouteVariants>(
+        match nano_ron_nested::read_choice_ron_within::<Levels, RouteVariants>(
             below,
             left - 1,
             alloc,

@@ -7,41 +7,29 @@ ghost use Rattle.nano_json_schema.specs.Structs.{json_of};
 ghost use Rattle.nano_ron_schema.specs.Structs.{ron_of};
 
 use super::*;
-use nano_bin_schema::{
-    BinCodec, BinShape, DeBin, DeBinErr, SerBin, read_record_bin, write_record_bin,
-};
+use nano_bin_schema::{BinCodec, BinShape, DeBin, DeBinErr, SerBin};
 use nano_json_schema::{
     DeJson, DeJsonState, JsonCodec, JsonResult, JsonShape, Place, SerJson, SerJsonState,
-    read_record_json, take_record_json, write_record_json,
 };
-use nano_ron_schema::{
-    DeRon, DeRonState, RonCodec, RonResult, RonShape, SerRon, SerRonState, read_record_ron,
-    write_record_ron,
-};
-use nano_schema::{
-    Borrowed, FieldRefs, Label, Optional, Required, Shape, StructSchema, Value, known_record,
-};
+use nano_ron_schema::{DeRon, DeRonState, RonCodec, RonResult, RonShape, SerRon, SerRonState};
+use nano_schema::{Borrowed, FieldRefs, Label, Optional, Required, Shape, StructSchema, Value};
 use std::alloc::{AllocError, Global};
 use std::str::Chars;
 
 struct ItemNames<const I: usize> {}
 
 impl<const I: usize> Label for ItemNames<I> {
-    ghost label = { if I == 0 then codes "name"
-        else codes "count" };
+    ghost label = { if I == 0 then codes "name" else codes "count" };
 
     fn text() -> &'static str {
-        match I {
-            0 => "name",
-            _ => "count",
-        }
+        nano_schema::name_of!(I, 0 => "name", _ => "count")
     }
 }
 
 type ItemFields = (Required<ItemNames<0>, String>, Optional<ItemNames<1>, u32>);
 
 impl StructSchema for Item {
-    type Values = (String, Option<u32>);
+    type Values = <ItemFields as Shape>::Values;
 
     ghost view = { λ x. (x.name, x.count) };
 
@@ -52,7 +40,7 @@ impl StructSchema for Item {
 }
 
 impl<'a> FieldRefs<'a> for Item {
-    type Refs = (&'a String, &'a Option<u32>);
+    type Refs = <ItemFields as Borrowed<'a>>::Refs;
 
     ghost values = { ⟦<ItemFields as Borrowed<'a>>⟧.values };
 
@@ -67,11 +55,9 @@ impl Value for Item {
     ghost legal = { ⟦<ItemFields as Shape>⟧.legal };
 
     fn known(&self) {
-        known_record::<Self, ItemFields>(self);
+        nano_schema::known_record::<Self, ItemFields>(self);
     }
 }
-
-// ---- bytes
 
 impl BinCodec for Item {
     ghost bin = { bin_of ⟦<Item as StructSchema>⟧.view ⟦<ItemFields as BinShape>⟧.codec };
@@ -81,7 +67,7 @@ impl BinCodec for Item {
 
 impl SerBin for Item {
     fn ser_bin(&self, alloc: Global, output: &mut Vec<u8>) -> Result<(), AllocError> {
-        write_record_bin::<Self, ItemFields>(self, alloc, output)
+        nano_bin_schema::write_record_bin::<Self, ItemFields>(self, alloc, output)
     }
 }
 
@@ -89,11 +75,9 @@ impl DeBin for Item {
     ghost is_decodable = { refl };
 
     fn de_bin(alloc: Global, offset: &mut usize, bytes: &[u8]) -> Result<Self, DeBinErr> {
-        read_record_bin::<Self, ItemFields>(alloc, offset, bytes)
+        nano_bin_schema::read_record_bin::<Self, ItemFields>(alloc, offset, bytes)
     }
 }
-
-// ---- JSON
 
 impl JsonCodec for Item {
     ghost json = { json_of ⟦<Item as StructSchema>⟧.view ⟦<ItemFields as JsonShape>⟧.codec refl };
@@ -103,13 +87,13 @@ impl JsonCodec for Item {
 
 impl SerJson for Item {
     fn ser_json(&self, alloc: Global, d: usize, s: &mut SerJsonState) -> Result<(), AllocError> {
-        write_record_json::<Self, ItemFields>(self, alloc, d, s)
+        nano_json_schema::write_record_json::<Self, ItemFields>(self, alloc, d, s)
     }
 }
 
 impl DeJson for Item {
     fn de_json(alloc: Global, state: &mut DeJsonState, input: &mut Chars<'_>) -> JsonResult<Self> {
-        read_record_json::<Self, ItemFields>(alloc, state, input)
+        nano_json_schema::read_record_json::<Self, ItemFields>(alloc, state, input)
     }
 
     fn de_json_plain(
@@ -118,11 +102,9 @@ impl DeJson for Item {
         input: &mut Chars<'_>,
         text: &mut String,
     ) -> Option<Self> {
-        take_record_json::<Self, ItemFields>(alloc, place, input, text)
+        nano_json_schema::take_record_json::<Self, ItemFields>(alloc, place, input, text)
     }
 }
-
-// ---- RON
 
 impl RonCodec for Item {
     ghost ron = { ron_of ⟦<Item as StructSchema>⟧.view ⟦<ItemFields as RonShape>⟧.codec refl };
@@ -132,12 +114,12 @@ impl RonCodec for Item {
 
 impl SerRon for Item {
     fn ser_ron(&self, alloc: Global, d: usize, s: &mut SerRonState) -> Result<(), AllocError> {
-        write_record_ron::<Self, ItemFields>(self, alloc, d, s)
+        nano_ron_schema::write_record_ron::<Self, ItemFields>(self, alloc, d, s)
     }
 }
 
 impl DeRon for Item {
     fn de_ron(alloc: Global, state: &mut DeRonState, input: &mut Chars<'_>) -> RonResult<Self> {
-        read_record_ron::<Self, ItemFields>(alloc, state, input)
+        nano_ron_schema::read_record_ron::<Self, ItemFields>(alloc, state, input)
     }
 }

@@ -8,20 +8,13 @@ ghost use Rattle.nano_json_schema.specs.Enums.{json_choice};
 ghost use Rattle.nano_ron_schema.specs.Enums.{ron_choice};
 
 use super::*;
-use nano_bin_schema::{
-    BinCodec, BinShapes, DeBin, DeBinErr, SerBin, read_choice_bin, write_choice_bin,
-};
+use nano_bin_schema::{BinCodec, BinShapes, DeBin, DeBinErr, SerBin};
 use nano_json_schema::{
     DeJson, DeJsonState, JsonCodec, JsonResult, JsonShapes, SerJson, SerJsonState,
-    read_choice_json, write_choice_json,
 };
-use nano_ron_schema::{
-    DeRon, DeRonState, RonCodec, RonResult, RonShapes, SerRon, SerRonState, read_choice_ron,
-    write_choice_ron,
-};
+use nano_ron_schema::{DeRon, DeRonState, RonCodec, RonResult, RonShapes, SerRon, SerRonState};
 use nano_schema::{
-    BorrowedChoices, Choices, Either, EnumSchema, Label, Newtype, Unit, Value, Variant,
-    VariantRefs, known_variant,
+    BorrowedChoices, Choices, Either, EnumSchema, Label, Newtype, Unit, Value, Variant, VariantRefs,
 };
 use std::alloc::{AllocError, Global};
 use std::str::Chars;
@@ -29,14 +22,10 @@ use std::str::Chars;
 struct ModeNames<const I: usize> {}
 
 impl<const I: usize> Label for ModeNames<I> {
-    ghost label = { if I == 0 then codes "Easy"
-        else codes "Hard" };
+    ghost label = { if I == 0 then codes "Easy" else codes "Hard" };
 
     fn text() -> &'static str {
-        match I {
-            0 => "Easy",
-            _ => "Hard",
-        }
+        nano_schema::name_of!(I, 0 => "Easy", _ => "Hard")
     }
 }
 
@@ -102,11 +91,9 @@ impl Value for Mode {
     ghost legal = { LegalVariant ⟦<ModeVariants as Choices>⟧.legals };
 
     fn known(&self) {
-        known_variant::<Self, ModeVariants>(self);
+        nano_schema::known_variant::<Self, ModeVariants>(self);
     }
 }
-
-// ---- bytes
 
 impl BinCodec for Mode {
     ghost bin = { bin_choice ⟦<Mode as EnumSchema>⟧.view ⟦<ModeVariants as BinShapes>⟧.chosen
@@ -117,7 +104,7 @@ impl BinCodec for Mode {
 
 impl SerBin for Mode {
     fn ser_bin(&self, alloc: Global, output: &mut Vec<u8>) -> Result<(), AllocError> {
-        write_choice_bin::<Self, ModeVariants>(self, alloc, output)
+        nano_bin_schema::write_choice_bin::<Self, ModeVariants>(self, alloc, output)
     }
 }
 
@@ -125,11 +112,9 @@ impl DeBin for Mode {
     ghost is_decodable = { refl };
 
     fn de_bin(alloc: Global, offset: &mut usize, bytes: &[u8]) -> Result<Self, DeBinErr> {
-        read_choice_bin::<Self, ModeVariants>(alloc, offset, bytes)
+        nano_bin_schema::read_choice_bin::<Self, ModeVariants>(alloc, offset, bytes)
     }
 }
-
-// ---- JSON
 
 impl JsonCodec for Mode {
     ghost json = { json_choice ⟦<Mode as EnumSchema>⟧.view ⟦<ModeVariants as JsonShapes>⟧.codec
@@ -140,17 +125,15 @@ impl JsonCodec for Mode {
 
 impl SerJson for Mode {
     fn ser_json(&self, alloc: Global, d: usize, s: &mut SerJsonState) -> Result<(), AllocError> {
-        write_choice_json::<Self, ModeVariants>(self, alloc, d, s)
+        nano_json_schema::write_choice_json::<Self, ModeVariants>(self, alloc, d, s)
     }
 }
 
 impl DeJson for Mode {
     fn de_json(alloc: Global, state: &mut DeJsonState, input: &mut Chars<'_>) -> JsonResult<Self> {
-        read_choice_json::<Self, ModeVariants>(alloc, state, input)
+        nano_json_schema::read_choice_json::<Self, ModeVariants>(alloc, state, input)
     }
 }
-
-// ---- RON
 
 impl RonCodec for Mode {
     ghost ron = { ron_choice ⟦<Mode as EnumSchema>⟧.view ⟦<ModeVariants as RonShapes>⟧.codec refl
@@ -161,12 +144,12 @@ impl RonCodec for Mode {
 
 impl SerRon for Mode {
     fn ser_ron(&self, alloc: Global, d: usize, s: &mut SerRonState) -> Result<(), AllocError> {
-        write_choice_ron::<Self, ModeVariants>(self, alloc, d, s)
+        nano_ron_schema::write_choice_ron::<Self, ModeVariants>(self, alloc, d, s)
     }
 }
 
 impl DeRon for Mode {
     fn de_ron(alloc: Global, state: &mut DeRonState, input: &mut Chars<'_>) -> RonResult<Self> {
-        read_choice_ron::<Self, ModeVariants>(alloc, state, input)
+        nano_ron_schema::read_choice_ron::<Self, ModeVariants>(alloc, state, input)
     }
 }

@@ -6,26 +6,15 @@ ghost use Rattle.nano_text.specs.Outcomes.{Appends, AppendsPart, Unchanged};
 ghost use Rattle.nano_json_schema.specs.Variants.{content_text};
 
 use super::*;
-use nano_bin::append_part;
-use nano_bin_nested::{
-    ReadsBin, WritesBin, append_part_within, append_variant, append_variant_within, no_memory,
-    read_choice_within,
-};
+use nano_bin_nested::{ReadsBin, WritesBin};
 use nano_bin_schema::{BinCodec, DeBin, DeBinErr, SerBin};
-use nano_json_nested::{
-    NestedJson, ReadsJson, WritesJson, append_required_within, no_levels, read_choice_json_within,
-    rollback_on_error, too_deep, write_pair_within, write_variant_other,
-};
+use nano_json_nested::{NestedJson, ReadsJson, WritesJson};
 use nano_json_schema::{
     DeJson, DeJsonErr, DeJsonState, JsonCodec, JsonRefs, SerJson, SerJsonState,
 };
 use nano_levels::{Levels, Other, Within};
-use nano_ron_nested::{
-    NestedRon, ReadsRon, WritesRon, append_optional, append_required, read_choice_ron_within,
-};
-use nano_ron_schema::{
-    DeRon, DeRonErr, DeRonState, RonCodec, SerRon, SerRonState, write_unit_variant,
-};
+use nano_ron_nested::{NestedRon, ReadsRon, WritesRon};
+use nano_ron_schema::{DeRon, DeRonErr, DeRonState, RonCodec, SerRon, SerRonState};
 use nano_schema::{
     Either, EnumSchema, Label, Newtype, Optional, Required, Struct, Tuple, Value, Variant,
 };
@@ -35,18 +24,11 @@ use std::str::Chars;
 struct QuestNames<const I: usize> {}
 
 impl<const I: usize> Label for QuestNames<I> {
-    ghost label = { if I == 0 then codes "Win"
-        else if I == 1 then codes "Bring"
-        else if I == 2 then codes "All"
-        else codes "Find" };
+    ghost label = { if I == 0 then codes "Win" else if I == 1 then codes "Bring"
+        else if I == 2 then codes "All" else codes "Find" };
 
     fn text() -> &'static str {
-        match I {
-            0 => "Win",
-            1 => "Bring",
-            2 => "All",
-            _ => "Find",
-        }
+        nano_schema::name_of!(I, 0 => "Win", 1 => "Bring", 2 => "All", _ => "Find")
     }
 }
 
@@ -55,16 +37,11 @@ type QuestBringParts = (Other<Newtype<Item>>, Within<Newtype<Box<Quest>>>);
 struct QuestAllNames<const I: usize> {}
 
 impl<const I: usize> Label for QuestAllNames<I> {
-    ghost label = { if I == 0 then codes "quests"
-        else if I == 1 then codes "modes"
+    ghost label = { if I == 0 then codes "quests" else if I == 1 then codes "modes"
         else codes "mode" };
 
     fn text() -> &'static str {
-        match I {
-            0 => "quests",
-            1 => "modes",
-            _ => "mode",
-        }
+        nano_schema::name_of!(I, 0 => "quests", 1 => "modes", _ => "mode")
     }
 }
 
@@ -177,21 +154,21 @@ impl WritesBin for Quest {
     fn write_bin(&self, alloc: Global, output: &mut Vec<u8>) -> Result<(), AllocError> {
         let start = output.len();
         match self {
-            Self::Win(first) => append_variant(alloc, 0, first, output),
+            Self::Win(first) => nano_bin_nested::append_variant(alloc, 0, first, output),
             Self::Bring(first, second) => {
-                append_variant(alloc, 1, first, output)?;
-                append_part_within(alloc, second, output, start)
+                nano_bin_nested::append_variant(alloc, 1, first, output)?;
+                nano_bin_nested::append_part_within(alloc, second, output, start)
             }
             Self::All {
                 quests,
                 modes,
                 mode,
             } => {
-                append_variant_within(alloc, 2, quests, output)?;
-                append_part(alloc, modes, output, start)?;
-                append_part(alloc, mode, output, start)
+                nano_bin_nested::append_variant_within(alloc, 2, quests, output)?;
+                nano_bin::append_part(alloc, modes, output, start)?;
+                nano_bin::append_part(alloc, mode, output, start)
             }
-            Self::Find(first) => append_variant(alloc, 3, first, output),
+            Self::Find(first) => nano_bin_nested::append_variant(alloc, 3, first, output),
         }
     }
 }
@@ -206,12 +183,14 @@ impl ReadsBin<Quest> for Levels {
     #[cycle(read)]
     fn read_bin(&self, alloc: Global, offset: &mut usize, bytes: &[u8]) -> Result<Quest, DeBinErr> {
         let Levels::More(below) = self else {
-            return Err(no_memory(*offset, bytes));
+            return Err(nano_bin_nested::no_memory(*offset, bytes));
         };
         let Some(below) = below.first() else {
-            return Err(no_memory(*offset, bytes));
+            return Err(nano_bin_nested::no_memory(*offset, bytes));
         };
-        read_choice_within::<Levels, Quest, QuestVariants>(below, alloc, offset, bytes)
+        nano_bin_nested::read_choice_within::<Levels, Quest, QuestVariants>(
+            below, alloc, offset, bytes,
+        )
     }
 }
 
@@ -285,7 +264,9 @@ impl QuestJsonWriter {
     {
         s.st_pre()?;
         let inner = d.saturating_add(1);
-        let modes_is_first = append_required_within(alloc, "quests", v0, true, inner, s)?;
+        let modes_is_first = nano_json_nested::append_required_within(
+            alloc, "quests", v0, true, inner, s,
+        )?;
         let mode_is_first = Required::<QuestAllNames<1>, Vec<Mode>>::append_fields(
             &v1,
             alloc,
@@ -340,7 +321,7 @@ impl QuestJsonWriter {
     {
         let start = s.out.len();
         let written = Self::append_all(value, v0, v1, v2, alloc, d, s);
-        rollback_on_error(&mut s.out, start, written)
+        nano_json_nested::rollback_on_error(&mut s.out, start, written)
     }
 }
 
@@ -349,17 +330,17 @@ impl WritesJson for Quest {
     #[tactic(auto, using(crate::proofs::QuestJsonCodecsLaws::quest_json_texts))]
     fn write_json(&self, alloc: Global, d: usize, s: &mut SerJsonState) -> Result<(), AllocError> {
         match self {
-            Self::Win(first) => write_variant_other(alloc, "Win", first, d, s),
+            Self::Win(first) => nano_json_nested::write_variant_other(alloc, "Win", first, d, s),
             Self::Bring(first, second) => {
                 let first = &nano_json_schema::Part { of: first };
-                write_pair_within(alloc, "Bring", first, second, d, s)
+                nano_json_nested::write_pair_within(alloc, "Bring", first, second, d, s)
             }
             Self::All {
                 quests: v0,
                 modes: v1,
                 mode: v2,
             } => QuestJsonWriter::write_all(self, v0, v1, v2, alloc, d, s),
-            Self::Find(first) => write_variant_other(alloc, "Find", first, d, s),
+            Self::Find(first) => nano_json_nested::write_variant_other(alloc, "Find", first, d, s),
         }
     }
 }
@@ -380,15 +361,15 @@ impl ReadsJson<Quest> for Levels {
         input: &mut Chars<'_>,
     ) -> Result<Quest, DeJsonErr> {
         if left == 0 {
-            return Err(too_deep(alloc, state));
+            return Err(nano_json_nested::too_deep(alloc, state));
         }
         let Levels::More(below) = self else {
-            return Err(no_levels(alloc, state));
+            return Err(nano_json_nested::no_levels(alloc, state));
         };
         let Some(below) = below.first() else {
-            return Err(no_levels(alloc, state));
+            return Err(nano_json_nested::no_levels(alloc, state));
         };
-        match read_choice_json_within::<Levels, QuestJsonVariants>(
+        match nano_json_nested::read_choice_json_within::<Levels, QuestJsonVariants>(
             below,
             left - 1,
             alloc,
@@ -454,12 +435,12 @@ impl QuestRonWriter {
             (Appends s.old.out s.new.out (quest_ron_of_all d v0.now v1.now v2.now)) }
         ensures err { OnErr result (AppendsPart s.old.out s.new.out) }
     {
-        write_unit_variant("All", s)?;
+        nano_ron_schema::write_unit_variant("All", s)?;
         s.st_pre()?;
         let inner = d.saturating_add(1);
         nano_ron_nested::append_required_within(alloc, "quests", v0, inner, s)?;
-        append_required(alloc, "modes", v1, inner, s)?;
-        append_optional(alloc, "mode", v2, inner, s)?;
+        nano_ron_nested::append_required(alloc, "modes", v1, inner, s)?;
+        nano_ron_nested::append_optional(alloc, "mode", v2, inner, s)?;
         s.st_post(d)
     }
 
@@ -529,7 +510,7 @@ impl ReadsRon<Quest> for Levels {
         let Some(below) = below.first() else {
             return Err(nano_ron_nested::no_levels(alloc, state));
         };
-        match read_choice_ron_within::<Levels, QuestVariants>(
+        match nano_ron_nested::read_choice_ron_within::<Levels, QuestVariants>(
             below,
             left - 1,
             alloc,

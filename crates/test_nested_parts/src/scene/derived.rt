@@ -5,17 +5,14 @@ ghost use Rattle.nano_schema.specs.UserTypes.{agreed};
 ghost use Rattle.nano_text.specs.Outcomes.{Appends, AppendsPart};
 
 use super::*;
-use nano_bin_nested::{ReadsBin, WritesBin, append_part_within, no_memory, read_record_within};
+use nano_bin_nested::{ReadsBin, WritesBin};
 use nano_bin_schema::{BinCodec, DeBin, DeBinErr, SerBin};
-use nano_json_nested::{
-    NestedJson, ReadsJson, WritesJson, append_required_within, no_levels, read_record_json_within,
-    rollback_on_error, too_deep,
-};
+use nano_json_nested::{NestedJson, ReadsJson, WritesJson};
 use nano_json_schema::{
     DeJson, DeJsonErr, DeJsonState, JsonCodec, JsonRefs, SerJson, SerJsonState,
 };
 use nano_levels::{Levels, Other, Within};
-use nano_ron_nested::{NestedRon, ReadsRon, WritesRon, append_required, read_record_ron_within};
+use nano_ron_nested::{NestedRon, ReadsRon, WritesRon};
 use nano_ron_schema::{DeRon, DeRonErr, DeRonState, RonCodec, SerRon, SerRonState};
 use nano_schema::{Label, Required, StructSchema, Value};
 use std::alloc::{AllocError, Global};
@@ -24,14 +21,10 @@ use std::str::Chars;
 struct SceneNames<const I: usize> {}
 
 impl<const I: usize> Label for SceneNames<I> {
-    ghost label = { if I == 0 then codes "mode"
-        else codes "scenes" };
+    ghost label = { if I == 0 then codes "mode" else codes "scenes" };
 
     fn text() -> &'static str {
-        match I {
-            0 => "mode",
-            _ => "scenes",
-        }
+        nano_schema::name_of!(I, 0 => "mode", _ => "scenes")
     }
 }
 
@@ -82,7 +75,7 @@ impl WritesBin for Scene {
     fn write_bin(&self, alloc: Global, output: &mut Vec<u8>) -> Result<(), AllocError> {
         let start = output.len();
         SerBin::ser_bin(&self.mode, alloc, output)?;
-        append_part_within(alloc, &self.scenes, output, start)
+        nano_bin_nested::append_part_within(alloc, &self.scenes, output, start)
     }
 }
 
@@ -96,12 +89,14 @@ impl ReadsBin<Scene> for Levels {
     #[cycle(read)]
     fn read_bin(&self, alloc: Global, offset: &mut usize, bytes: &[u8]) -> Result<Scene, DeBinErr> {
         let Levels::More(below) = self else {
-            return Err(no_memory(*offset, bytes));
+            return Err(nano_bin_nested::no_memory(*offset, bytes));
         };
         let Some(below) = below.first() else {
-            return Err(no_memory(*offset, bytes));
+            return Err(nano_bin_nested::no_memory(*offset, bytes));
         };
-        read_record_within::<Levels, Scene, SceneFields>(below, alloc, offset, bytes)
+        nano_bin_nested::read_record_within::<Levels, Scene, SceneFields>(
+            below, alloc, offset, bytes,
+        )
     }
 }
 
@@ -160,7 +155,14 @@ impl SceneJsonWriter {
             inner,
             s,
         )?;
-        append_required_within(alloc, "scenes", &value.scenes, scenes_is_first, inner, s)?;
+        nano_json_nested::append_required_within(
+            alloc,
+            "scenes",
+            &value.scenes,
+            scenes_is_first,
+            inner,
+            s,
+        )?;
         s.st_post(d)
     }
 }
@@ -170,7 +172,7 @@ impl WritesJson for Scene {
     fn write_json(&self, alloc: Global, d: usize, s: &mut SerJsonState) -> Result<(), AllocError> {
         let start = s.out.len();
         let written = SceneJsonWriter::append_record(self, alloc, d, s);
-        rollback_on_error(&mut s.out, start, written)
+        nano_json_nested::rollback_on_error(&mut s.out, start, written)
     }
 }
 
@@ -190,15 +192,21 @@ impl ReadsJson<Scene> for Levels {
         input: &mut Chars<'_>,
     ) -> Result<Scene, DeJsonErr> {
         if left == 0 {
-            return Err(too_deep(alloc, state));
+            return Err(nano_json_nested::too_deep(alloc, state));
         }
         let Levels::More(below) = self else {
-            return Err(no_levels(alloc, state));
+            return Err(nano_json_nested::no_levels(alloc, state));
         };
         let Some(below) = below.first() else {
-            return Err(no_levels(alloc, state));
+            return Err(nano_json_nested::no_levels(alloc, state));
         };
-        match read_record_json_within::<Levels, SceneFields>(below, left - 1, alloc, state, input) {
+        match nano_json_nested::read_record_json_within::<Levels, SceneFields>(
+            below,
+            left - 1,
+            alloc,
+            state,
+            input,
+        ) {
             Ok(values) => Ok(Scene::make(values)),
             Err(error) => Err(error),
         }
@@ -255,7 +263,7 @@ impl SceneRonWriter {
     {
         s.st_pre()?;
         let inner = d.saturating_add(1);
-        append_required(alloc, "mode", &value.mode, inner, s)?;
+        nano_ron_nested::append_required(alloc, "mode", &value.mode, inner, s)?;
         nano_ron_nested::append_required_within(alloc, "scenes", &value.scenes, inner, s)?;
         s.st_post(d)
     }
@@ -294,7 +302,13 @@ impl ReadsRon<Scene> for Levels {
         let Some(below) = below.first() else {
             return Err(nano_ron_nested::no_levels(alloc, state));
         };
-        match read_record_ron_within::<Levels, SceneFields>(below, left - 1, alloc, state, input) {
+        match nano_ron_nested::read_record_ron_within::<Levels, SceneFields>(
+            below,
+            left - 1,
+            alloc,
+            state,
+            input,
+        ) {
             Ok(values) => Ok(Scene::make(values)),
             Err(error) => Err(error),
         }

@@ -11,23 +11,16 @@ ghost use Rattle.nano_json_schema.specs.Enums.{json_choice};
 ghost use Rattle.nano_ron_schema.specs.Enums.{ron_choice};
 
 use super::*;
-use nano_bin_schema::{
-    BinCodec, BinShape, BinShapes, DeBin, DeBinErr, SerBin, read_choice_bin, read_record_bin,
-    write_choice_bin, write_record_bin,
-};
+use nano_bin_schema::{BinCodec, BinShape, BinShapes, DeBin, DeBinErr, SerBin};
 use nano_json_schema::{
-    DeJson, DeJsonState, JsonCodec, JsonResult, JsonShape, JsonShapes, Place, SerJson,
-    SerJsonState, read_choice_json, read_record_json, take_record_json, write_choice_json,
-    write_record_json,
+    DeJson, DeJsonState, JsonCodec, JsonResult, JsonShape, JsonShapes, Place, SerJson, SerJsonState,
 };
 use nano_ron_schema::{
     DeRon, DeRonState, RonCodec, RonResult, RonShape, RonShapes, SerRon, SerRonState,
-    read_choice_ron, read_record_ron, write_choice_ron, write_record_ron,
 };
 use nano_schema::{
     Borrowed, BorrowedChoices, Choices, Either, EnumSchema, FieldRefs, Label, Newtype, Optional,
-    Required, Shape, Struct, StructSchema, Tuple, Unit, Value, Variant, VariantRefs, known_record,
-    known_variant,
+    Required, Shape, Struct, StructSchema, Tuple, Unit, Value, Variant, VariantRefs,
 };
 use std::alloc::{AllocError, Global};
 use std::str::Chars;
@@ -35,20 +28,12 @@ use std::str::Chars;
 struct StoryNames<const I: usize> {}
 
 impl<const I: usize> Label for StoryNames<I> {
-    ghost label = { if I == 0 then codes "title"
-        else if I == 1 then codes "first"
-        else if I == 2 then codes "quests"
-        else if I == 3 then codes "scenes"
-        else codes "ending" };
+    ghost label = { if I == 0 then codes "title" else if I == 1 then codes "first"
+        else if I == 2 then codes "quests" else if I == 3 then codes "scenes" else codes "ending" };
 
     fn text() -> &'static str {
-        match I {
-            0 => "title",
-            1 => "first",
-            2 => "quests",
-            3 => "scenes",
-            _ => "ending",
-        }
+        nano_schema::name_of!(I, 0 => "title", 1 => "first", 2 => "quests", 3 => "scenes",
+            _ => "ending")
     }
 }
 
@@ -67,10 +52,7 @@ type StoryFields = (
 );
 
 impl StructSchema for Story {
-    type Values = (
-        (String, Scene),
-        (Vec<Quest>, (BTreeMap<String, Scene>, Option<Ending>)),
-    );
+    type Values = <StoryFields as Shape>::Values;
 
     ghost view = { λ x. ((x.title, x.first), (x.quests, (x.scenes, x.ending))) };
 
@@ -87,13 +69,7 @@ impl StructSchema for Story {
 }
 
 impl<'a> FieldRefs<'a> for Story {
-    type Refs = (
-        (&'a String, &'a Scene),
-        (
-            &'a Vec<Quest>,
-            (&'a BTreeMap<String, Scene>, &'a Option<Ending>),
-        ),
-    );
+    type Refs = <StoryFields as Borrowed<'a>>::Refs;
 
     ghost values = { ⟦<StoryFields as Borrowed<'a>>⟧.values };
 
@@ -111,11 +87,9 @@ impl Value for Story {
     ghost legal = { ⟦<StoryFields as Shape>⟧.legal };
 
     fn known(&self) {
-        known_record::<Self, StoryFields>(self);
+        nano_schema::known_record::<Self, StoryFields>(self);
     }
 }
-
-// ---- bytes
 
 impl BinCodec for Story {
     ghost bin = { bin_of ⟦<Story as StructSchema>⟧.view ⟦<StoryFields as BinShape>⟧.codec };
@@ -125,7 +99,7 @@ impl BinCodec for Story {
 
 impl SerBin for Story {
     fn ser_bin(&self, alloc: Global, output: &mut Vec<u8>) -> Result<(), AllocError> {
-        write_record_bin::<Self, StoryFields>(self, alloc, output)
+        nano_bin_schema::write_record_bin::<Self, StoryFields>(self, alloc, output)
     }
 }
 
@@ -133,11 +107,9 @@ impl DeBin for Story {
     ghost is_decodable = { refl };
 
     fn de_bin(alloc: Global, offset: &mut usize, bytes: &[u8]) -> Result<Self, DeBinErr> {
-        read_record_bin::<Self, StoryFields>(alloc, offset, bytes)
+        nano_bin_schema::read_record_bin::<Self, StoryFields>(alloc, offset, bytes)
     }
 }
-
-// ---- JSON
 
 impl JsonCodec for Story {
     ghost json = { json_of ⟦<Story as StructSchema>⟧.view ⟦<StoryFields as JsonShape>⟧.codec refl };
@@ -147,13 +119,13 @@ impl JsonCodec for Story {
 
 impl SerJson for Story {
     fn ser_json(&self, alloc: Global, d: usize, s: &mut SerJsonState) -> Result<(), AllocError> {
-        write_record_json::<Self, StoryFields>(self, alloc, d, s)
+        nano_json_schema::write_record_json::<Self, StoryFields>(self, alloc, d, s)
     }
 }
 
 impl DeJson for Story {
     fn de_json(alloc: Global, state: &mut DeJsonState, input: &mut Chars<'_>) -> JsonResult<Self> {
-        read_record_json::<Self, StoryFields>(alloc, state, input)
+        nano_json_schema::read_record_json::<Self, StoryFields>(alloc, state, input)
     }
 
     fn de_json_plain(
@@ -162,11 +134,9 @@ impl DeJson for Story {
         input: &mut Chars<'_>,
         text: &mut String,
     ) -> Option<Self> {
-        take_record_json::<Self, StoryFields>(alloc, place, input, text)
+        nano_json_schema::take_record_json::<Self, StoryFields>(alloc, place, input, text)
     }
 }
-
-// ---- RON
 
 impl RonCodec for Story {
     ghost ron = { ron_of ⟦<Story as StructSchema>⟧.view ⟦<StoryFields as RonShape>⟧.codec refl };
@@ -176,31 +146,24 @@ impl RonCodec for Story {
 
 impl SerRon for Story {
     fn ser_ron(&self, alloc: Global, d: usize, s: &mut SerRonState) -> Result<(), AllocError> {
-        write_record_ron::<Self, StoryFields>(self, alloc, d, s)
+        nano_ron_schema::write_record_ron::<Self, StoryFields>(self, alloc, d, s)
     }
 }
 
 impl DeRon for Story {
     fn de_ron(alloc: Global, state: &mut DeRonState, input: &mut Chars<'_>) -> RonResult<Self> {
-        read_record_ron::<Self, StoryFields>(alloc, state, input)
+        nano_ron_schema::read_record_ron::<Self, StoryFields>(alloc, state, input)
     }
 }
 
 struct EndingNames<const I: usize> {}
 
 impl<const I: usize> Label for EndingNames<I> {
-    ghost label = { if I == 0 then codes "Open"
-        else if I == 1 then codes "In"
-        else if I == 2 then codes "Won"
-        else codes "OneOf" };
+    ghost label = { if I == 0 then codes "Open" else if I == 1 then codes "In"
+        else if I == 2 then codes "Won" else codes "OneOf" };
 
     fn text() -> &'static str {
-        match I {
-            0 => "Open",
-            1 => "In",
-            2 => "Won",
-            _ => "OneOf",
-        }
+        nano_schema::name_of!(I, 0 => "Open", 1 => "In", 2 => "Won", _ => "OneOf")
     }
 }
 
@@ -323,11 +286,9 @@ impl Value for Ending {
     ghost legal = { LegalVariant ⟦<EndingVariants as Choices>⟧.legals };
 
     fn known(&self) {
-        known_variant::<Self, EndingVariants>(self);
+        nano_schema::known_variant::<Self, EndingVariants>(self);
     }
 }
-
-// ---- bytes
 
 impl BinCodec for Ending {
     ghost bin = { bin_choice ⟦<Ending as EnumSchema>⟧.view ⟦<EndingVariants as BinShapes>⟧.chosen
@@ -338,7 +299,7 @@ impl BinCodec for Ending {
 
 impl SerBin for Ending {
     fn ser_bin(&self, alloc: Global, output: &mut Vec<u8>) -> Result<(), AllocError> {
-        write_choice_bin::<Self, EndingVariants>(self, alloc, output)
+        nano_bin_schema::write_choice_bin::<Self, EndingVariants>(self, alloc, output)
     }
 }
 
@@ -346,11 +307,9 @@ impl DeBin for Ending {
     ghost is_decodable = { refl };
 
     fn de_bin(alloc: Global, offset: &mut usize, bytes: &[u8]) -> Result<Self, DeBinErr> {
-        read_choice_bin::<Self, EndingVariants>(alloc, offset, bytes)
+        nano_bin_schema::read_choice_bin::<Self, EndingVariants>(alloc, offset, bytes)
     }
 }
-
-// ---- JSON
 
 impl JsonCodec for Ending {
     ghost json = { json_choice ⟦<Ending as EnumSchema>⟧.view
@@ -361,17 +320,15 @@ impl JsonCodec for Ending {
 
 impl SerJson for Ending {
     fn ser_json(&self, alloc: Global, d: usize, s: &mut SerJsonState) -> Result<(), AllocError> {
-        write_choice_json::<Self, EndingVariants>(self, alloc, d, s)
+        nano_json_schema::write_choice_json::<Self, EndingVariants>(self, alloc, d, s)
     }
 }
 
 impl DeJson for Ending {
     fn de_json(alloc: Global, state: &mut DeJsonState, input: &mut Chars<'_>) -> JsonResult<Self> {
-        read_choice_json::<Self, EndingVariants>(alloc, state, input)
+        nano_json_schema::read_choice_json::<Self, EndingVariants>(alloc, state, input)
     }
 }
-
-// ---- RON
 
 impl RonCodec for Ending {
     ghost ron = { ron_choice ⟦<Ending as EnumSchema>⟧.view ⟦<EndingVariants as RonShapes>⟧.codec
@@ -382,12 +339,12 @@ impl RonCodec for Ending {
 
 impl SerRon for Ending {
     fn ser_ron(&self, alloc: Global, d: usize, s: &mut SerRonState) -> Result<(), AllocError> {
-        write_choice_ron::<Self, EndingVariants>(self, alloc, d, s)
+        nano_ron_schema::write_choice_ron::<Self, EndingVariants>(self, alloc, d, s)
     }
 }
 
 impl DeRon for Ending {
     fn de_ron(alloc: Global, state: &mut DeRonState, input: &mut Chars<'_>) -> RonResult<Self> {
-        read_choice_ron::<Self, EndingVariants>(alloc, state, input)
+        nano_ron_schema::read_choice_ron::<Self, EndingVariants>(alloc, state, input)
     }
 }

@@ -5,23 +5,14 @@ ghost use Rattle.nano_schema.specs.UserTypes.{agreed};
 ghost use Rattle.nano_text.specs.Outcomes.{Appends, AppendsPart};
 
 use super::*;
-use nano_bin::append_part;
-use nano_bin_nested::{
-    ReadsBin, WritesBin, append_part_within, append_variant, no_memory, read_choice_within,
-    read_record_within,
-};
+use nano_bin_nested::{ReadsBin, WritesBin};
 use nano_bin_schema::{BinCodec, DeBin, DeBinErr, SerBin};
-use nano_json_nested::{
-    NestedJson, ReadsJson, WritesJson, append_required_within, no_levels, read_choice_json_within,
-    read_record_json_within, rollback_on_error, too_deep, write_triple_within,
-};
+use nano_json_nested::{NestedJson, ReadsJson, WritesJson};
 use nano_json_schema::{
-    DeJson, DeJsonErr, DeJsonState, JsonCodec, JsonRefs, SerJson, SerJsonState, write_unit_variant,
+    DeJson, DeJsonErr, DeJsonState, JsonCodec, JsonRefs, SerJson, SerJsonState,
 };
 use nano_levels::{Levels, Other, Within};
-use nano_ron_nested::{
-    NestedRon, ReadsRon, WritesRon, append_required, read_choice_ron_within, read_record_ron_within,
-};
+use nano_ron_nested::{NestedRon, ReadsRon, WritesRon};
 use nano_ron_schema::{DeRon, DeRonErr, DeRonState, RonCodec, SerRon, SerRonState};
 use nano_schema::{
     Either, EnumSchema, Label, Newtype, Required, StructSchema, Tuple, Unit, Value, Variant,
@@ -32,22 +23,13 @@ use std::str::Chars;
 struct NodeNames<const I: usize> {}
 
 impl<const I: usize> Label for NodeNames<I> {
-    ghost label = { if I == 0 then codes "name"
-        else if I == 1 then codes "at"
-        else if I == 2 then codes "size"
-        else if I == 3 then codes "tags"
-        else if I == 4 then codes "effects"
-        else codes "children" };
+    ghost label = { if I == 0 then codes "name" else if I == 1 then codes "at"
+        else if I == 2 then codes "size" else if I == 3 then codes "tags"
+        else if I == 4 then codes "effects" else codes "children" };
 
     fn text() -> &'static str {
-        match I {
-            0 => "name",
-            1 => "at",
-            2 => "size",
-            3 => "tags",
-            4 => "effects",
-            _ => "children",
-        }
+        nano_schema::name_of!(I, 0 => "name", 1 => "at", 2 => "size", 3 => "tags",
+            4 => "effects", _ => "children")
     }
 }
 
@@ -128,11 +110,11 @@ impl WritesBin for Node {
     fn write_bin(&self, alloc: Global, output: &mut Vec<u8>) -> Result<(), AllocError> {
         let start = output.len();
         SerBin::ser_bin(&self.name, alloc, output)?;
-        append_part(alloc, &self.at, output, start)?;
-        append_part(alloc, &self.size, output, start)?;
-        append_part(alloc, &self.tags, output, start)?;
-        append_part(alloc, &self.effects, output, start)?;
-        append_part_within(alloc, &self.children, output, start)
+        nano_bin::append_part(alloc, &self.at, output, start)?;
+        nano_bin::append_part(alloc, &self.size, output, start)?;
+        nano_bin::append_part(alloc, &self.tags, output, start)?;
+        nano_bin::append_part(alloc, &self.effects, output, start)?;
+        nano_bin_nested::append_part_within(alloc, &self.children, output, start)
     }
 }
 
@@ -146,12 +128,12 @@ impl ReadsBin<Node> for Levels {
     #[cycle(read)]
     fn read_bin(&self, alloc: Global, offset: &mut usize, bytes: &[u8]) -> Result<Node, DeBinErr> {
         let Levels::More(below) = self else {
-            return Err(no_memory(*offset, bytes));
+            return Err(nano_bin_nested::no_memory(*offset, bytes));
         };
         let Some(below) = below.first() else {
-            return Err(no_memory(*offset, bytes));
+            return Err(nano_bin_nested::no_memory(*offset, bytes));
         };
-        read_record_within::<Levels, Node, NodeFields>(below, alloc, offset, bytes)
+        nano_bin_nested::read_record_within::<Levels, Node, NodeFields>(below, alloc, offset, bytes)
     }
 }
 
@@ -238,7 +220,7 @@ impl NodeJsonWriter {
             inner,
             s,
         )?;
-        append_required_within(
+        nano_json_nested::append_required_within(
             alloc,
             "children",
             &value.children,
@@ -255,7 +237,7 @@ impl WritesJson for Node {
     fn write_json(&self, alloc: Global, d: usize, s: &mut SerJsonState) -> Result<(), AllocError> {
         let start = s.out.len();
         let written = NodeJsonWriter::append_record(self, alloc, d, s);
-        rollback_on_error(&mut s.out, start, written)
+        nano_json_nested::rollback_on_error(&mut s.out, start, written)
     }
 }
 
@@ -275,15 +257,21 @@ impl ReadsJson<Node> for Levels {
         input: &mut Chars<'_>,
     ) -> Result<Node, DeJsonErr> {
         if left == 0 {
-            return Err(too_deep(alloc, state));
+            return Err(nano_json_nested::too_deep(alloc, state));
         }
         let Levels::More(below) = self else {
-            return Err(no_levels(alloc, state));
+            return Err(nano_json_nested::no_levels(alloc, state));
         };
         let Some(below) = below.first() else {
-            return Err(no_levels(alloc, state));
+            return Err(nano_json_nested::no_levels(alloc, state));
         };
-        match read_record_json_within::<Levels, NodeFields>(below, left - 1, alloc, state, input) {
+        match nano_json_nested::read_record_json_within::<Levels, NodeFields>(
+            below,
+            left - 1,
+            alloc,
+            state,
+            input,
+        ) {
             Ok(values) => Ok(Node::make(values)),
             Err(error) => Err(error),
         }
@@ -340,11 +328,11 @@ impl NodeRonWriter {
     {
         s.st_pre()?;
         let inner = d.saturating_add(1);
-        append_required(alloc, "name", &value.name, inner, s)?;
-        append_required(alloc, "at", &value.at, inner, s)?;
-        append_required(alloc, "size", &value.size, inner, s)?;
-        append_required(alloc, "tags", &value.tags, inner, s)?;
-        append_required(alloc, "effects", &value.effects, inner, s)?;
+        nano_ron_nested::append_required(alloc, "name", &value.name, inner, s)?;
+        nano_ron_nested::append_required(alloc, "at", &value.at, inner, s)?;
+        nano_ron_nested::append_required(alloc, "size", &value.size, inner, s)?;
+        nano_ron_nested::append_required(alloc, "tags", &value.tags, inner, s)?;
+        nano_ron_nested::append_required(alloc, "effects", &value.effects, inner, s)?;
         nano_ron_nested::append_required_within(alloc, "children", &value.children, inner, s)?;
         s.st_post(d)
     }
@@ -383,7 +371,13 @@ impl ReadsRon<Node> for Levels {
         let Some(below) = below.first() else {
             return Err(nano_ron_nested::no_levels(alloc, state));
         };
-        match read_record_ron_within::<Levels, NodeFields>(below, left - 1, alloc, state, input) {
+        match nano_ron_nested::read_record_ron_within::<Levels, NodeFields>(
+            below,
+            left - 1,
+            alloc,
+            state,
+            input,
+        ) {
             Ok(values) => Ok(Node::make(values)),
             Err(error) => Err(error),
         }
@@ -404,14 +398,10 @@ impl DeRon for Node {
 struct TrailNames<const I: usize> {}
 
 impl<const I: usize> Label for TrailNames<I> {
-    ghost label = { if I == 0 then codes "End"
-        else codes "Through" };
+    ghost label = { if I == 0 then codes "End" else codes "Through" };
 
     fn text() -> &'static str {
-        match I {
-            0 => "End",
-            _ => "Through",
-        }
+        nano_schema::name_of!(I, 0 => "End", _ => "Through")
     }
 }
 
@@ -483,11 +473,11 @@ impl WritesBin for Trail {
     fn write_bin(&self, alloc: Global, output: &mut Vec<u8>) -> Result<(), AllocError> {
         let start = output.len();
         match self {
-            Self::End => append_variant(alloc, 0, &(), output),
+            Self::End => nano_bin_nested::append_variant(alloc, 0, &(), output),
             Self::Through(first, second, third) => {
-                append_variant(alloc, 1, first, output)?;
-                append_part(alloc, second, output, start)?;
-                append_part_within(alloc, third, output, start)
+                nano_bin_nested::append_variant(alloc, 1, first, output)?;
+                nano_bin::append_part(alloc, second, output, start)?;
+                nano_bin_nested::append_part_within(alloc, third, output, start)
             }
         }
     }
@@ -503,12 +493,14 @@ impl ReadsBin<Trail> for Levels {
     #[cycle(read)]
     fn read_bin(&self, alloc: Global, offset: &mut usize, bytes: &[u8]) -> Result<Trail, DeBinErr> {
         let Levels::More(below) = self else {
-            return Err(no_memory(*offset, bytes));
+            return Err(nano_bin_nested::no_memory(*offset, bytes));
         };
         let Some(below) = below.first() else {
-            return Err(no_memory(*offset, bytes));
+            return Err(nano_bin_nested::no_memory(*offset, bytes));
         };
-        read_choice_within::<Levels, Trail, TrailVariants>(below, alloc, offset, bytes)
+        nano_bin_nested::read_choice_within::<Levels, Trail, TrailVariants>(
+            below, alloc, offset, bytes,
+        )
     }
 }
 
@@ -548,11 +540,11 @@ impl WritesJson for Trail {
     #[tactic(auto, using(crate::proofs::NodeJsonCodecsLaws::trail_json_texts))]
     fn write_json(&self, alloc: Global, d: usize, s: &mut SerJsonState) -> Result<(), AllocError> {
         match self {
-            Self::End => write_unit_variant(alloc, "End", s),
+            Self::End => nano_json_schema::write_unit_variant(alloc, "End", s),
             Self::Through(first, second, third) => {
                 let first = &nano_json_schema::Part { of: first };
                 let second = &nano_json_schema::Part { of: second };
-                write_triple_within(alloc, "Through", first, second, third, d, s)
+                nano_json_nested::write_triple_within(alloc, "Through", first, second, third, d, s)
             }
         }
     }
@@ -574,15 +566,15 @@ impl ReadsJson<Trail> for Levels {
         input: &mut Chars<'_>,
     ) -> Result<Trail, DeJsonErr> {
         if left == 0 {
-            return Err(too_deep(alloc, state));
+            return Err(nano_json_nested::too_deep(alloc, state));
         }
         let Levels::More(below) = self else {
-            return Err(no_levels(alloc, state));
+            return Err(nano_json_nested::no_levels(alloc, state));
         };
         let Some(below) = below.first() else {
-            return Err(no_levels(alloc, state));
+            return Err(nano_json_nested::no_levels(alloc, state));
         };
-        match read_choice_json_within::<Levels, TrailJsonVariants>(
+        match nano_json_nested::read_choice_json_within::<Levels, TrailJsonVariants>(
             below,
             left - 1,
             alloc,
@@ -663,7 +655,7 @@ impl ReadsRon<Trail> for Levels {
         let Some(below) = below.first() else {
             return Err(nano_ron_nested::no_levels(alloc, state));
         };
-        match read_choice_ron_within::<Levels, TrailVariants>(
+        match nano_ron_nested::read_choice_ron_within::<Levels, TrailVariants>(
             below,
             left - 1,
             alloc,

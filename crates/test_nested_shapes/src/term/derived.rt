@@ -6,22 +6,14 @@ ghost use Rattle.nano_text.specs.Outcomes.{Appends, AppendsPart, Unchanged};
 ghost use Rattle.nano_json_schema.specs.Variants.{content_text};
 
 use super::*;
-use nano_bin::append_part;
-use nano_bin_nested::{
-    ReadsBin, WritesBin, append_part_within, append_variant, append_variant_within, no_memory,
-    read_choice_within,
-};
+use nano_bin_nested::{ReadsBin, WritesBin};
 use nano_bin_schema::{BinCodec, DeBin, DeBinErr, SerBin};
-use nano_json_nested::{
-    NestedJson, ReadsJson, WritesJson, append_optional_within, no_levels, read_choice_json_within,
-    rollback_on_error, too_deep, write_pair_within, write_triple_within, write_variant_other,
-    write_variant_within,
-};
+use nano_json_nested::{NestedJson, ReadsJson, WritesJson};
 use nano_json_schema::{
-    DeJson, DeJsonErr, DeJsonState, JsonCodec, JsonRefs, SerJson, SerJsonState, write_unit_variant,
+    DeJson, DeJsonErr, DeJsonState, JsonCodec, JsonRefs, SerJson, SerJsonState,
 };
 use nano_levels::{Levels, Other, Within};
-use nano_ron_nested::{NestedRon, ReadsRon, WritesRon, append_required, read_choice_ron_within};
+use nano_ron_nested::{NestedRon, ReadsRon, WritesRon};
 use nano_ron_schema::{DeRon, DeRonErr, DeRonState, RonCodec, SerRon, SerRonState};
 use nano_schema::{
     Either, EnumSchema, Label, Newtype, Optional, Required, Struct, Tuple, Unit, Value, Variant,
@@ -32,18 +24,11 @@ use std::str::Chars;
 struct TermNames<const I: usize> {}
 
 impl<const I: usize> Label for TermNames<I> {
-    ghost label = { if I == 0 then codes "Number"
-        else if I == 1 then codes "Call"
-        else if I == 2 then codes "If"
-        else codes "Repeat" };
+    ghost label = { if I == 0 then codes "Number" else if I == 1 then codes "Call"
+        else if I == 2 then codes "If" else codes "Repeat" };
 
     fn text() -> &'static str {
-        match I {
-            0 => "Number",
-            1 => "Call",
-            2 => "If",
-            _ => "Repeat",
-        }
+        nano_schema::name_of!(I, 0 => "Number", 1 => "Call", 2 => "If", _ => "Repeat")
     }
 }
 
@@ -155,20 +140,20 @@ impl WritesBin for Term {
     fn write_bin(&self, alloc: Global, output: &mut Vec<u8>) -> Result<(), AllocError> {
         let start = output.len();
         match self {
-            Self::Number(first) => append_variant(alloc, 0, first, output),
+            Self::Number(first) => nano_bin_nested::append_variant(alloc, 0, first, output),
             Self::Call(first, second) => {
-                append_variant(alloc, 1, first, output)?;
-                append_part_within(alloc, second, output, start)
+                nano_bin_nested::append_variant(alloc, 1, first, output)?;
+                nano_bin_nested::append_part_within(alloc, second, output, start)
             }
             Self::If(first, second, third) => {
-                append_variant_within(alloc, 2, first, output)?;
-                append_part_within(alloc, second, output, start)?;
-                append_part_within(alloc, third, output, start)
+                nano_bin_nested::append_variant_within(alloc, 2, first, output)?;
+                nano_bin_nested::append_part_within(alloc, second, output, start)?;
+                nano_bin_nested::append_part_within(alloc, third, output, start)
             }
             Self::Repeat(first, second, third) => {
-                append_variant(alloc, 3, first, output)?;
-                append_part(alloc, second, output, start)?;
-                append_part_within(alloc, third, output, start)
+                nano_bin_nested::append_variant(alloc, 3, first, output)?;
+                nano_bin::append_part(alloc, second, output, start)?;
+                nano_bin_nested::append_part_within(alloc, third, output, start)
             }
         }
     }
@@ -184,12 +169,14 @@ impl ReadsBin<Term> for Levels {
     #[cycle(read_term_bin)]
     fn read_bin(&self, alloc: Global, offset: &mut usize, bytes: &[u8]) -> Result<Term, DeBinErr> {
         let Levels::More(below) = self else {
-            return Err(no_memory(*offset, bytes));
+            return Err(nano_bin_nested::no_memory(*offset, bytes));
         };
         let Some(below) = below.first() else {
-            return Err(no_memory(*offset, bytes));
+            return Err(nano_bin_nested::no_memory(*offset, bytes));
         };
-        read_choice_within::<Levels, Term, TermVariants>(below, alloc, offset, bytes)
+        nano_bin_nested::read_choice_within::<Levels, Term, TermVariants>(
+            below, alloc, offset, bytes,
+        )
     }
 }
 
@@ -240,18 +227,20 @@ impl WritesJson for Term {
     #[tactic(auto, using(crate::proofs::TermJsonCodecsLaws::term_json_texts))]
     fn write_json(&self, alloc: Global, d: usize, s: &mut SerJsonState) -> Result<(), AllocError> {
         match self {
-            Self::Number(first) => write_variant_other(alloc, "Number", first, d, s),
+            Self::Number(first) => {
+                nano_json_nested::write_variant_other(alloc, "Number", first, d, s)
+            }
             Self::Call(first, second) => {
                 let first = &nano_json_schema::Part { of: first };
-                write_pair_within(alloc, "Call", first, second, d, s)
+                nano_json_nested::write_pair_within(alloc, "Call", first, second, d, s)
             }
             Self::If(first, second, third) => {
-                write_triple_within(alloc, "If", first, second, third, d, s)
+                nano_json_nested::write_triple_within(alloc, "If", first, second, third, d, s)
             }
             Self::Repeat(first, second, third) => {
                 let first = &nano_json_schema::Part { of: first };
                 let second = &nano_json_schema::Part { of: second };
-                write_triple_within(alloc, "Repeat", first, second, third, d, s)
+                nano_json_nested::write_triple_within(alloc, "Repeat", first, second, third, d, s)
             }
         }
     }
@@ -273,15 +262,15 @@ impl ReadsJson<Term> for Levels {
         input: &mut Chars<'_>,
     ) -> Result<Term, DeJsonErr> {
         if left == 0 {
-            return Err(too_deep(alloc, state));
+            return Err(nano_json_nested::too_deep(alloc, state));
         }
         let Levels::More(below) = self else {
-            return Err(no_levels(alloc, state));
+            return Err(nano_json_nested::no_levels(alloc, state));
         };
         let Some(below) = below.first() else {
-            return Err(no_levels(alloc, state));
+            return Err(nano_json_nested::no_levels(alloc, state));
         };
-        match read_choice_json_within::<Levels, TermJsonVariants>(
+        match nano_json_nested::read_choice_json_within::<Levels, TermJsonVariants>(
             below,
             left - 1,
             alloc,
@@ -372,7 +361,13 @@ impl ReadsRon<Term> for Levels {
         let Some(below) = below.first() else {
             return Err(nano_ron_nested::no_levels(alloc, state));
         };
-        match read_choice_ron_within::<Levels, TermVariants>(below, left - 1, alloc, state, input) {
+        match nano_ron_nested::read_choice_ron_within::<Levels, TermVariants>(
+            below,
+            left - 1,
+            alloc,
+            state,
+            input,
+        ) {
             Ok(values) => Ok(Term::make(values)),
             Err(error) => Err(error),
         }
@@ -393,30 +388,21 @@ impl DeRon for Term {
 struct ArgumentNames<const I: usize> {}
 
 impl<const I: usize> Label for ArgumentNames<I> {
-    ghost label = { if I == 0 then codes "Plain"
-        else if I == 1 then codes "Named"
+    ghost label = { if I == 0 then codes "Plain" else if I == 1 then codes "Named"
         else codes "Rest" };
 
     fn text() -> &'static str {
-        match I {
-            0 => "Plain",
-            1 => "Named",
-            _ => "Rest",
-        }
+        nano_schema::name_of!(I, 0 => "Plain", 1 => "Named", _ => "Rest")
     }
 }
 
 struct ArgumentNamedNames<const I: usize> {}
 
 impl<const I: usize> Label for ArgumentNamedNames<I> {
-    ghost label = { if I == 0 then codes "name"
-        else codes "value" };
+    ghost label = { if I == 0 then codes "name" else codes "value" };
 
     fn text() -> &'static str {
-        match I {
-            0 => "name",
-            _ => "value",
-        }
+        nano_schema::name_of!(I, 0 => "name", _ => "value")
     }
 }
 
@@ -507,12 +493,12 @@ impl WritesBin for Argument {
     fn write_bin(&self, alloc: Global, output: &mut Vec<u8>) -> Result<(), AllocError> {
         let start = output.len();
         match self {
-            Self::Plain(first) => append_variant_within(alloc, 0, first, output),
+            Self::Plain(first) => nano_bin_nested::append_variant_within(alloc, 0, first, output),
             Self::Named { name, value } => {
-                append_variant(alloc, 1, name, output)?;
-                append_part_within(alloc, value, output, start)
+                nano_bin_nested::append_variant(alloc, 1, name, output)?;
+                nano_bin_nested::append_part_within(alloc, value, output, start)
             }
-            Self::Rest => append_variant(alloc, 2, &(), output),
+            Self::Rest => nano_bin_nested::append_variant(alloc, 2, &(), output),
         }
     }
 }
@@ -531,7 +517,9 @@ impl ReadsBin<Argument> for Levels {
         offset: &mut usize,
         bytes: &[u8],
     ) -> Result<Argument, DeBinErr> {
-        read_choice_within::<Levels, Argument, ArgumentVariants>(self, alloc, offset, bytes)
+        nano_bin_nested::read_choice_within::<Levels, Argument, ArgumentVariants>(
+            self, alloc, offset, bytes,
+        )
     }
 }
 
@@ -590,7 +578,7 @@ impl ArgumentJsonWriter {
         let value_is_first = Required::<ArgumentNamedNames<0>, String>::append_fields(
             &v0, alloc, true, inner, s,
         )?;
-        append_optional_within(alloc, "value", v1, value_is_first, inner, s)?;
+        nano_json_nested::append_optional_within(alloc, "value", v1, value_is_first, inner, s)?;
         s.st_post(d)
     }
 
@@ -635,7 +623,7 @@ impl ArgumentJsonWriter {
     {
         let start = s.out.len();
         let written = Self::append_named(value, v0, v1, alloc, d, s);
-        rollback_on_error(&mut s.out, start, written)
+        nano_json_nested::rollback_on_error(&mut s.out, start, written)
     }
 }
 
@@ -644,12 +632,14 @@ impl WritesJson for Argument {
     #[tactic(auto, using(crate::proofs::TermJsonCodecsLaws::argument_json_texts))]
     fn write_json(&self, alloc: Global, d: usize, s: &mut SerJsonState) -> Result<(), AllocError> {
         match self {
-            Self::Plain(first) => write_variant_within(alloc, "Plain", first, d, s),
+            Self::Plain(first) => {
+                nano_json_nested::write_variant_within(alloc, "Plain", first, d, s)
+            }
             Self::Named {
                 name: v0,
                 value: v1,
             } => ArgumentJsonWriter::write_named(self, v0, v1, alloc, d, s),
-            Self::Rest => write_unit_variant(alloc, "Rest", s),
+            Self::Rest => nano_json_schema::write_unit_variant(alloc, "Rest", s),
         }
     }
 }
@@ -669,7 +659,13 @@ impl ReadsJson<Argument> for Levels {
         state: &mut DeJsonState,
         input: &mut Chars<'_>,
     ) -> Result<Argument, DeJsonErr> {
-        match read_choice_json_within::<Levels, ArgumentVariants>(self, left, alloc, state, input) {
+        match nano_json_nested::read_choice_json_within::<Levels, ArgumentVariants>(
+            self,
+            left,
+            alloc,
+            state,
+            input,
+        ) {
             Ok(values) => Ok(Argument::make(values)),
             Err(error) => Err(error),
         }
@@ -731,7 +727,7 @@ impl ArgumentRonWriter {
         nano_ron_schema::write_unit_variant("Named", s)?;
         s.st_pre()?;
         let inner = d.saturating_add(1);
-        append_required(alloc, "name", v0, inner, s)?;
+        nano_ron_nested::append_required(alloc, "name", v0, inner, s)?;
         nano_ron_nested::append_optional_within(alloc, "value", v1, inner, s)?;
         s.st_post(d)
     }
@@ -789,7 +785,13 @@ impl ReadsRon<Argument> for Levels {
         state: &mut DeRonState,
         input: &mut Chars<'_>,
     ) -> Result<Argument, DeRonErr> {
-        match read_choice_ron_within::<Levels, ArgumentVariants>(self, left, alloc, state, input) {
+        match nano_ron_nested::read_choice_ron_within::<Levels, ArgumentVariants>(
+            self,
+            left,
+            alloc,
+            state,
+            input,
+        ) {
             Ok(values) => Ok(Argument::make(values)),
             Err(error) => Err(error),
         }

@@ -1,25 +1,19 @@
 //! Written by derive_files: how the types of the module above are encoded.
 
-ghost use Rattle.std.specs.Prelude.{codes, ◌==◌, if◌then◌else◌, pos, neg_ℤ, true, refl};
-ghost use Rattle.nano_schema.specs.UserTypes.{number, truth, agreed};
+ghost use Rattle.std.specs.Prelude.{codes, ◌==◌, if◌then◌else◌, refl};
 ghost use Rattle.nano_bin_schema.specs.Structs.{bin_of};
+ghost use Rattle.nano_schema.specs.UserTypes.{agreed};
 ghost use Rattle.nano_json_schema.specs.Structs.{json_of};
 ghost use Rattle.nano_ron_schema.specs.Structs.{ron_of};
 
 use super::*;
-use nano_bin_schema::{
-    BinCodec, BinShape, DeBin, DeBinErr, SerBin, read_record_bin, write_record_bin,
-};
+use nano_bin_schema::{BinCodec, BinShape, DeBin, DeBinErr, SerBin};
 use nano_json_schema::{
-    DeJson, DeJsonState, JsonCodec, JsonDefaultOf, JsonResult, JsonShape, Place, SerJson,
-    SerJsonState, read_record_json, take_record_json, write_record_json,
+    DeJson, DeJsonState, JsonCodec, JsonResult, JsonShape, Place, SerJson, SerJsonState,
 };
-use nano_ron_schema::{
-    DeRon, DeRonState, RonCodec, RonDefaultOf, RonResult, RonShape, SerRon, SerRonState,
-    read_record_ron, write_record_ron,
-};
+use nano_ron_schema::{DeRon, DeRonState, RonCodec, RonResult, RonShape, SerRon, SerRonState};
 use nano_schema::{
-    Borrowed, DefaultOf, Defaulted, FieldRefs, Label, Shape, StructSchema, Value, known_record,
+    Borrowed, DefaultBool, DefaultI32, Defaulted, FieldRefs, Label, Shape, StructSchema, Value,
 };
 use std::alloc::{AllocError, Global};
 use std::str::Chars;
@@ -27,62 +21,20 @@ use std::str::Chars;
 struct ClockNames<const I: usize> {}
 
 impl<const I: usize> Label for ClockNames<I> {
-    ghost label = { if I == 0 then codes "offset"
-        else codes "running" };
+    ghost label = { if I == 0 then codes "offset" else codes "running" };
 
     fn text() -> &'static str {
-        match I {
-            0 => "offset",
-            _ => "running",
-        }
+        nano_schema::name_of!(I, 0 => "offset", _ => "running")
     }
-}
-
-/// The default of `offset`.
-struct ClockOffsetDefault {}
-
-impl DefaultOf<i32> for ClockOffsetDefault {
-    ghost missing = { number (neg_ℤ (pos 5)) };
-
-    fn default(_alloc: Global) -> Result<i32, AllocError> {
-        Ok(-5)
-    }
-}
-
-impl JsonDefaultOf<i32> for ClockOffsetDefault {
-    ghost is_sound = { λ x e. tt };
-}
-
-impl RonDefaultOf<i32> for ClockOffsetDefault {
-    ghost is_sound = { λ x e. tt };
-}
-
-/// The default of `running`.
-struct ClockRunningDefault {}
-
-impl DefaultOf<bool> for ClockRunningDefault {
-    ghost missing = { truth true };
-
-    fn default(_alloc: Global) -> Result<bool, AllocError> {
-        Ok(true)
-    }
-}
-
-impl JsonDefaultOf<bool> for ClockRunningDefault {
-    ghost is_sound = { λ x e. tt };
-}
-
-impl RonDefaultOf<bool> for ClockRunningDefault {
-    ghost is_sound = { λ x e. tt };
 }
 
 type ClockFields = (
-    Defaulted<ClockNames<0>, i32, ClockOffsetDefault>,
-    Defaulted<ClockNames<1>, bool, ClockRunningDefault>,
+    Defaulted<ClockNames<0>, i32, DefaultI32<-5>>,
+    Defaulted<ClockNames<1>, bool, DefaultBool<true>>,
 );
 
 impl StructSchema for Clock {
-    type Values = (i32, bool);
+    type Values = <ClockFields as Shape>::Values;
 
     ghost view = { λ x. (x.offset, x.running) };
 
@@ -93,7 +45,7 @@ impl StructSchema for Clock {
 }
 
 impl<'a> FieldRefs<'a> for Clock {
-    type Refs = (&'a i32, &'a bool);
+    type Refs = <ClockFields as Borrowed<'a>>::Refs;
 
     ghost values = { ⟦<ClockFields as Borrowed<'a>>⟧.values };
 
@@ -108,11 +60,9 @@ impl Value for Clock {
     ghost legal = { ⟦<ClockFields as Shape>⟧.legal };
 
     fn known(&self) {
-        known_record::<Self, ClockFields>(self);
+        nano_schema::known_record::<Self, ClockFields>(self);
     }
 }
-
-// ---- bytes
 
 impl BinCodec for Clock {
     ghost bin = { bin_of ⟦<Clock as StructSchema>⟧.view ⟦<ClockFields as BinShape>⟧.codec };
@@ -122,7 +72,7 @@ impl BinCodec for Clock {
 
 impl SerBin for Clock {
     fn ser_bin(&self, alloc: Global, output: &mut Vec<u8>) -> Result<(), AllocError> {
-        write_record_bin::<Self, ClockFields>(self, alloc, output)
+        nano_bin_schema::write_record_bin::<Self, ClockFields>(self, alloc, output)
     }
 }
 
@@ -130,11 +80,9 @@ impl DeBin for Clock {
     ghost is_decodable = { refl };
 
     fn de_bin(alloc: Global, offset: &mut usize, bytes: &[u8]) -> Result<Self, DeBinErr> {
-        read_record_bin::<Self, ClockFields>(alloc, offset, bytes)
+        nano_bin_schema::read_record_bin::<Self, ClockFields>(alloc, offset, bytes)
     }
 }
-
-// ---- JSON
 
 impl JsonCodec for Clock {
     ghost json = { json_of ⟦<Clock as StructSchema>⟧.view ⟦<ClockFields as JsonShape>⟧.codec refl };
@@ -144,13 +92,13 @@ impl JsonCodec for Clock {
 
 impl SerJson for Clock {
     fn ser_json(&self, alloc: Global, d: usize, s: &mut SerJsonState) -> Result<(), AllocError> {
-        write_record_json::<Self, ClockFields>(self, alloc, d, s)
+        nano_json_schema::write_record_json::<Self, ClockFields>(self, alloc, d, s)
     }
 }
 
 impl DeJson for Clock {
     fn de_json(alloc: Global, state: &mut DeJsonState, input: &mut Chars<'_>) -> JsonResult<Self> {
-        read_record_json::<Self, ClockFields>(alloc, state, input)
+        nano_json_schema::read_record_json::<Self, ClockFields>(alloc, state, input)
     }
 
     fn de_json_plain(
@@ -159,11 +107,9 @@ impl DeJson for Clock {
         input: &mut Chars<'_>,
         text: &mut String,
     ) -> Option<Self> {
-        take_record_json::<Self, ClockFields>(alloc, place, input, text)
+        nano_json_schema::take_record_json::<Self, ClockFields>(alloc, place, input, text)
     }
 }
-
-// ---- RON
 
 impl RonCodec for Clock {
     ghost ron = { ron_of ⟦<Clock as StructSchema>⟧.view ⟦<ClockFields as RonShape>⟧.codec refl };
@@ -173,12 +119,12 @@ impl RonCodec for Clock {
 
 impl SerRon for Clock {
     fn ser_ron(&self, alloc: Global, d: usize, s: &mut SerRonState) -> Result<(), AllocError> {
-        write_record_ron::<Self, ClockFields>(self, alloc, d, s)
+        nano_ron_schema::write_record_ron::<Self, ClockFields>(self, alloc, d, s)
     }
 }
 
 impl DeRon for Clock {
     fn de_ron(alloc: Global, state: &mut DeRonState, input: &mut Chars<'_>) -> RonResult<Self> {
-        read_record_ron::<Self, ClockFields>(alloc, state, input)
+        nano_ron_schema::read_record_ron::<Self, ClockFields>(alloc, state, input)
     }
 }

@@ -11,29 +11,22 @@ ghost use Rattle.nano_json_schema.specs.Enums.{json_choice};
 ghost use Rattle.nano_ron_schema.specs.Enums.{ron_choice};
 
 use super::*;
-use nano_bin_schema::{
-    BinCodec, BinShape, BinShapes, DeBin, DeBinErr, SerBin, read_choice_bin, read_record_bin,
-    write_choice_bin, write_record_bin,
-};
+use nano_bin_schema::{BinCodec, BinShape, BinShapes, DeBin, DeBinErr, SerBin};
 use nano_json_schema::{
-    DeJson, DeJsonState, JsonCodec, JsonResult, JsonShape, JsonShapes, Place, SerJson,
-    SerJsonState, read_choice_json, read_record_json, take_record_json, write_choice_json,
-    write_record_json,
+    DeJson, DeJsonState, JsonCodec, JsonResult, JsonShape, JsonShapes, Place, SerJson, SerJsonState,
 };
 use nano_ron_schema::{
     DeRon, DeRonState, RonCodec, RonResult, RonShape, RonShapes, SerRon, SerRonState,
-    read_choice_ron, read_record_ron, write_choice_ron, write_record_ron,
 };
 use nano_schema::{
     Borrowed, BorrowedChoices, Choices, Either, EnumSchema, FieldRefs, Label, Newtype, Optional,
-    Required, Shape, Struct, StructSchema, Unit, Value, Variant, VariantRefs, known_record,
-    known_variant,
+    Required, Shape, Struct, StructSchema, Unit, Value, Variant, VariantRefs,
 };
 use std::alloc::{AllocError, Global};
 use std::str::Chars;
 
 impl StructSchema for Marker {
-    type Values = ();
+    type Values = <Unit as Shape>::Values;
 
     ghost view = { λ x. tt };
 
@@ -44,7 +37,7 @@ impl StructSchema for Marker {
 }
 
 impl<'a> FieldRefs<'a> for Marker {
-    type Refs = ();
+    type Refs = <Unit as Borrowed<'a>>::Refs;
 
     ghost values = { ⟦<Unit as Borrowed<'a>>⟧.values };
 
@@ -59,11 +52,9 @@ impl Value for Marker {
     ghost legal = { ⟦<Unit as Shape>⟧.legal };
 
     fn known(&self) {
-        known_record::<Self, Unit>(self);
+        nano_schema::known_record::<Self, Unit>(self);
     }
 }
-
-// ---- bytes
 
 impl BinCodec for Marker {
     ghost bin = { bin_of ⟦<Marker as StructSchema>⟧.view ⟦<Unit as BinShape>⟧.codec };
@@ -73,7 +64,7 @@ impl BinCodec for Marker {
 
 impl SerBin for Marker {
     fn ser_bin(&self, alloc: Global, output: &mut Vec<u8>) -> Result<(), AllocError> {
-        write_record_bin::<Self, Unit>(self, alloc, output)
+        nano_bin_schema::write_record_bin::<Self, Unit>(self, alloc, output)
     }
 }
 
@@ -81,11 +72,9 @@ impl DeBin for Marker {
     ghost is_decodable = { refl };
 
     fn de_bin(alloc: Global, offset: &mut usize, bytes: &[u8]) -> Result<Self, DeBinErr> {
-        read_record_bin::<Self, Unit>(alloc, offset, bytes)
+        nano_bin_schema::read_record_bin::<Self, Unit>(alloc, offset, bytes)
     }
 }
-
-// ---- JSON
 
 impl JsonCodec for Marker {
     ghost json = { json_of ⟦<Marker as StructSchema>⟧.view ⟦<Unit as JsonShape>⟧.codec refl };
@@ -95,13 +84,13 @@ impl JsonCodec for Marker {
 
 impl SerJson for Marker {
     fn ser_json(&self, alloc: Global, d: usize, s: &mut SerJsonState) -> Result<(), AllocError> {
-        write_record_json::<Self, Unit>(self, alloc, d, s)
+        nano_json_schema::write_record_json::<Self, Unit>(self, alloc, d, s)
     }
 }
 
 impl DeJson for Marker {
     fn de_json(alloc: Global, state: &mut DeJsonState, input: &mut Chars<'_>) -> JsonResult<Self> {
-        read_record_json::<Self, Unit>(alloc, state, input)
+        nano_json_schema::read_record_json::<Self, Unit>(alloc, state, input)
     }
 
     fn de_json_plain(
@@ -110,11 +99,9 @@ impl DeJson for Marker {
         input: &mut Chars<'_>,
         text: &mut String,
     ) -> Option<Self> {
-        take_record_json::<Self, Unit>(alloc, place, input, text)
+        nano_json_schema::take_record_json::<Self, Unit>(alloc, place, input, text)
     }
 }
-
-// ---- RON
 
 impl RonCodec for Marker {
     ghost ron = { ron_of ⟦<Marker as StructSchema>⟧.view ⟦<Unit as RonShape>⟧.codec refl };
@@ -124,18 +111,18 @@ impl RonCodec for Marker {
 
 impl SerRon for Marker {
     fn ser_ron(&self, alloc: Global, d: usize, s: &mut SerRonState) -> Result<(), AllocError> {
-        write_record_ron::<Self, Unit>(self, alloc, d, s)
+        nano_ron_schema::write_record_ron::<Self, Unit>(self, alloc, d, s)
     }
 }
 
 impl DeRon for Marker {
     fn de_ron(alloc: Global, state: &mut DeRonState, input: &mut Chars<'_>) -> RonResult<Self> {
-        read_record_ron::<Self, Unit>(alloc, state, input)
+        nano_ron_schema::read_record_ron::<Self, Unit>(alloc, state, input)
     }
 }
 
 impl StructSchema for Empty {
-    type Values = ();
+    type Values = <Unit as Shape>::Values;
 
     ghost view = { λ x. tt };
 
@@ -146,7 +133,7 @@ impl StructSchema for Empty {
 }
 
 impl<'a> FieldRefs<'a> for Empty {
-    type Refs = ();
+    type Refs = <Unit as Borrowed<'a>>::Refs;
 
     ghost values = { ⟦<Unit as Borrowed<'a>>⟧.values };
 
@@ -161,11 +148,9 @@ impl Value for Empty {
     ghost legal = { ⟦<Unit as Shape>⟧.legal };
 
     fn known(&self) {
-        known_record::<Self, Unit>(self);
+        nano_schema::known_record::<Self, Unit>(self);
     }
 }
-
-// ---- bytes
 
 impl BinCodec for Empty {
     ghost bin = { bin_of ⟦<Empty as StructSchema>⟧.view ⟦<Unit as BinShape>⟧.codec };
@@ -175,7 +160,7 @@ impl BinCodec for Empty {
 
 impl SerBin for Empty {
     fn ser_bin(&self, alloc: Global, output: &mut Vec<u8>) -> Result<(), AllocError> {
-        write_record_bin::<Self, Unit>(self, alloc, output)
+        nano_bin_schema::write_record_bin::<Self, Unit>(self, alloc, output)
     }
 }
 
@@ -183,11 +168,9 @@ impl DeBin for Empty {
     ghost is_decodable = { refl };
 
     fn de_bin(alloc: Global, offset: &mut usize, bytes: &[u8]) -> Result<Self, DeBinErr> {
-        read_record_bin::<Self, Unit>(alloc, offset, bytes)
+        nano_bin_schema::read_record_bin::<Self, Unit>(alloc, offset, bytes)
     }
 }
-
-// ---- JSON
 
 impl JsonCodec for Empty {
     ghost json = { json_of ⟦<Empty as StructSchema>⟧.view ⟦<Unit as JsonShape>⟧.codec refl };
@@ -197,13 +180,13 @@ impl JsonCodec for Empty {
 
 impl SerJson for Empty {
     fn ser_json(&self, alloc: Global, d: usize, s: &mut SerJsonState) -> Result<(), AllocError> {
-        write_record_json::<Self, Unit>(self, alloc, d, s)
+        nano_json_schema::write_record_json::<Self, Unit>(self, alloc, d, s)
     }
 }
 
 impl DeJson for Empty {
     fn de_json(alloc: Global, state: &mut DeJsonState, input: &mut Chars<'_>) -> JsonResult<Self> {
-        read_record_json::<Self, Unit>(alloc, state, input)
+        nano_json_schema::read_record_json::<Self, Unit>(alloc, state, input)
     }
 
     fn de_json_plain(
@@ -212,11 +195,9 @@ impl DeJson for Empty {
         input: &mut Chars<'_>,
         text: &mut String,
     ) -> Option<Self> {
-        take_record_json::<Self, Unit>(alloc, place, input, text)
+        nano_json_schema::take_record_json::<Self, Unit>(alloc, place, input, text)
     }
 }
-
-// ---- RON
 
 impl RonCodec for Empty {
     ghost ron = { ron_of ⟦<Empty as StructSchema>⟧.view ⟦<Unit as RonShape>⟧.codec refl };
@@ -226,18 +207,18 @@ impl RonCodec for Empty {
 
 impl SerRon for Empty {
     fn ser_ron(&self, alloc: Global, d: usize, s: &mut SerRonState) -> Result<(), AllocError> {
-        write_record_ron::<Self, Unit>(self, alloc, d, s)
+        nano_ron_schema::write_record_ron::<Self, Unit>(self, alloc, d, s)
     }
 }
 
 impl DeRon for Empty {
     fn de_ron(alloc: Global, state: &mut DeRonState, input: &mut Chars<'_>) -> RonResult<Self> {
-        read_record_ron::<Self, Unit>(alloc, state, input)
+        nano_ron_schema::read_record_ron::<Self, Unit>(alloc, state, input)
     }
 }
 
 impl StructSchema for Count {
-    type Values = ();
+    type Values = <Unit as Shape>::Values;
 
     ghost view = { λ x. tt };
 
@@ -251,7 +232,7 @@ impl StructSchema for Count {
 }
 
 impl<'a> FieldRefs<'a> for Count {
-    type Refs = ();
+    type Refs = <Unit as Borrowed<'a>>::Refs;
 
     ghost values = { ⟦<Unit as Borrowed<'a>>⟧.values };
 
@@ -266,11 +247,9 @@ impl Value for Count {
     ghost legal = { ⟦<Unit as Shape>⟧.legal };
 
     fn known(&self) {
-        known_record::<Self, Unit>(self);
+        nano_schema::known_record::<Self, Unit>(self);
     }
 }
-
-// ---- bytes
 
 impl BinCodec for Count {
     ghost bin = { bin_of ⟦<Count as StructSchema>⟧.view ⟦<Unit as BinShape>⟧.codec };
@@ -280,7 +259,7 @@ impl BinCodec for Count {
 
 impl SerBin for Count {
     fn ser_bin(&self, alloc: Global, output: &mut Vec<u8>) -> Result<(), AllocError> {
-        write_record_bin::<Self, Unit>(self, alloc, output)
+        nano_bin_schema::write_record_bin::<Self, Unit>(self, alloc, output)
     }
 }
 
@@ -288,11 +267,9 @@ impl DeBin for Count {
     ghost is_decodable = { refl };
 
     fn de_bin(alloc: Global, offset: &mut usize, bytes: &[u8]) -> Result<Self, DeBinErr> {
-        read_record_bin::<Self, Unit>(alloc, offset, bytes)
+        nano_bin_schema::read_record_bin::<Self, Unit>(alloc, offset, bytes)
     }
 }
-
-// ---- JSON
 
 impl JsonCodec for Count {
     ghost json = { json_of ⟦<Count as StructSchema>⟧.view ⟦<Unit as JsonShape>⟧.codec refl };
@@ -302,13 +279,13 @@ impl JsonCodec for Count {
 
 impl SerJson for Count {
     fn ser_json(&self, alloc: Global, d: usize, s: &mut SerJsonState) -> Result<(), AllocError> {
-        write_record_json::<Self, Unit>(self, alloc, d, s)
+        nano_json_schema::write_record_json::<Self, Unit>(self, alloc, d, s)
     }
 }
 
 impl DeJson for Count {
     fn de_json(alloc: Global, state: &mut DeJsonState, input: &mut Chars<'_>) -> JsonResult<Self> {
-        read_record_json::<Self, Unit>(alloc, state, input)
+        nano_json_schema::read_record_json::<Self, Unit>(alloc, state, input)
     }
 
     fn de_json_plain(
@@ -317,11 +294,9 @@ impl DeJson for Count {
         input: &mut Chars<'_>,
         text: &mut String,
     ) -> Option<Self> {
-        take_record_json::<Self, Unit>(alloc, place, input, text)
+        nano_json_schema::take_record_json::<Self, Unit>(alloc, place, input, text)
     }
 }
-
-// ---- RON
 
 impl RonCodec for Count {
     ghost ron = { ron_of ⟦<Count as StructSchema>⟧.view ⟦<Unit as RonShape>⟧.codec refl };
@@ -331,29 +306,24 @@ impl RonCodec for Count {
 
 impl SerRon for Count {
     fn ser_ron(&self, alloc: Global, d: usize, s: &mut SerRonState) -> Result<(), AllocError> {
-        write_record_ron::<Self, Unit>(self, alloc, d, s)
+        nano_ron_schema::write_record_ron::<Self, Unit>(self, alloc, d, s)
     }
 }
 
 impl DeRon for Count {
     fn de_ron(alloc: Global, state: &mut DeRonState, input: &mut Chars<'_>) -> RonResult<Self> {
-        read_record_ron::<Self, Unit>(alloc, state, input)
+        nano_ron_schema::read_record_ron::<Self, Unit>(alloc, state, input)
     }
 }
 
 struct StepNames<const I: usize> {}
 
 impl<const I: usize> Label for StepNames<I> {
-    ghost label = { if I == 0 then codes "Rest"
-        else if I == 1 then codes "Walk"
+    ghost label = { if I == 0 then codes "Rest" else if I == 1 then codes "Walk"
         else codes "Stop" };
 
     fn text() -> &'static str {
-        match I {
-            0 => "Rest",
-            1 => "Walk",
-            _ => "Stop",
-        }
+        nano_schema::name_of!(I, 0 => "Rest", 1 => "Walk", _ => "Stop")
     }
 }
 
@@ -439,11 +409,9 @@ impl Value for Step {
     ghost legal = { LegalVariant ⟦<StepVariants as Choices>⟧.legals };
 
     fn known(&self) {
-        known_variant::<Self, StepVariants>(self);
+        nano_schema::known_variant::<Self, StepVariants>(self);
     }
 }
-
-// ---- bytes
 
 impl BinCodec for Step {
     ghost bin = { bin_choice ⟦<Step as EnumSchema>⟧.view ⟦<StepVariants as BinShapes>⟧.chosen
@@ -454,7 +422,7 @@ impl BinCodec for Step {
 
 impl SerBin for Step {
     fn ser_bin(&self, alloc: Global, output: &mut Vec<u8>) -> Result<(), AllocError> {
-        write_choice_bin::<Self, StepVariants>(self, alloc, output)
+        nano_bin_schema::write_choice_bin::<Self, StepVariants>(self, alloc, output)
     }
 }
 
@@ -462,11 +430,9 @@ impl DeBin for Step {
     ghost is_decodable = { refl };
 
     fn de_bin(alloc: Global, offset: &mut usize, bytes: &[u8]) -> Result<Self, DeBinErr> {
-        read_choice_bin::<Self, StepVariants>(alloc, offset, bytes)
+        nano_bin_schema::read_choice_bin::<Self, StepVariants>(alloc, offset, bytes)
     }
 }
-
-// ---- JSON
 
 impl JsonCodec for Step {
     ghost json = { json_choice ⟦<Step as EnumSchema>⟧.view ⟦<StepVariants as JsonShapes>⟧.codec
@@ -477,17 +443,15 @@ impl JsonCodec for Step {
 
 impl SerJson for Step {
     fn ser_json(&self, alloc: Global, d: usize, s: &mut SerJsonState) -> Result<(), AllocError> {
-        write_choice_json::<Self, StepVariants>(self, alloc, d, s)
+        nano_json_schema::write_choice_json::<Self, StepVariants>(self, alloc, d, s)
     }
 }
 
 impl DeJson for Step {
     fn de_json(alloc: Global, state: &mut DeJsonState, input: &mut Chars<'_>) -> JsonResult<Self> {
-        read_choice_json::<Self, StepVariants>(alloc, state, input)
+        nano_json_schema::read_choice_json::<Self, StepVariants>(alloc, state, input)
     }
 }
-
-// ---- RON
 
 impl RonCodec for Step {
     ghost ron = { ron_choice ⟦<Step as EnumSchema>⟧.view ⟦<StepVariants as RonShapes>⟧.codec refl
@@ -498,29 +462,24 @@ impl RonCodec for Step {
 
 impl SerRon for Step {
     fn ser_ron(&self, alloc: Global, d: usize, s: &mut SerRonState) -> Result<(), AllocError> {
-        write_choice_ron::<Self, StepVariants>(self, alloc, d, s)
+        nano_ron_schema::write_choice_ron::<Self, StepVariants>(self, alloc, d, s)
     }
 }
 
 impl DeRon for Step {
     fn de_ron(alloc: Global, state: &mut DeRonState, input: &mut Chars<'_>) -> RonResult<Self> {
-        read_choice_ron::<Self, StepVariants>(alloc, state, input)
+        nano_ron_schema::read_choice_ron::<Self, StepVariants>(alloc, state, input)
     }
 }
 
 struct TripNames<const I: usize> {}
 
 impl<const I: usize> Label for TripNames<I> {
-    ghost label = { if I == 0 then codes "there"
-        else if I == 1 then codes "new"
+    ghost label = { if I == 0 then codes "there" else if I == 1 then codes "new"
         else codes "steps" };
 
     fn text() -> &'static str {
-        match I {
-            0 => "there",
-            1 => "new",
-            _ => "steps",
-        }
+        nano_schema::name_of!(I, 0 => "there", 1 => "new", _ => "steps")
     }
 }
 
@@ -533,7 +492,7 @@ type TripFields = (
 );
 
 impl StructSchema for Trip {
-    type Values = (Marker, (Option<Empty>, Vec<Step>));
+    type Values = <TripFields as Shape>::Values;
 
     ghost view = { λ x. (x.there, (x.new, x.steps)) };
 
@@ -544,7 +503,7 @@ impl StructSchema for Trip {
 }
 
 impl<'a> FieldRefs<'a> for Trip {
-    type Refs = (&'a Marker, (&'a Option<Empty>, &'a Vec<Step>));
+    type Refs = <TripFields as Borrowed<'a>>::Refs;
 
     ghost values = { ⟦<TripFields as Borrowed<'a>>⟧.values };
 
@@ -559,11 +518,9 @@ impl Value for Trip {
     ghost legal = { ⟦<TripFields as Shape>⟧.legal };
 
     fn known(&self) {
-        known_record::<Self, TripFields>(self);
+        nano_schema::known_record::<Self, TripFields>(self);
     }
 }
-
-// ---- bytes
 
 impl BinCodec for Trip {
     ghost bin = { bin_of ⟦<Trip as StructSchema>⟧.view ⟦<TripFields as BinShape>⟧.codec };
@@ -573,7 +530,7 @@ impl BinCodec for Trip {
 
 impl SerBin for Trip {
     fn ser_bin(&self, alloc: Global, output: &mut Vec<u8>) -> Result<(), AllocError> {
-        write_record_bin::<Self, TripFields>(self, alloc, output)
+        nano_bin_schema::write_record_bin::<Self, TripFields>(self, alloc, output)
     }
 }
 
@@ -581,11 +538,9 @@ impl DeBin for Trip {
     ghost is_decodable = { refl };
 
     fn de_bin(alloc: Global, offset: &mut usize, bytes: &[u8]) -> Result<Self, DeBinErr> {
-        read_record_bin::<Self, TripFields>(alloc, offset, bytes)
+        nano_bin_schema::read_record_bin::<Self, TripFields>(alloc, offset, bytes)
     }
 }
-
-// ---- JSON
 
 impl JsonCodec for Trip {
     ghost json = { json_of ⟦<Trip as StructSchema>⟧.view ⟦<TripFields as JsonShape>⟧.codec refl };
@@ -595,13 +550,13 @@ impl JsonCodec for Trip {
 
 impl SerJson for Trip {
     fn ser_json(&self, alloc: Global, d: usize, s: &mut SerJsonState) -> Result<(), AllocError> {
-        write_record_json::<Self, TripFields>(self, alloc, d, s)
+        nano_json_schema::write_record_json::<Self, TripFields>(self, alloc, d, s)
     }
 }
 
 impl DeJson for Trip {
     fn de_json(alloc: Global, state: &mut DeJsonState, input: &mut Chars<'_>) -> JsonResult<Self> {
-        read_record_json::<Self, TripFields>(alloc, state, input)
+        nano_json_schema::read_record_json::<Self, TripFields>(alloc, state, input)
     }
 
     fn de_json_plain(
@@ -610,11 +565,9 @@ impl DeJson for Trip {
         input: &mut Chars<'_>,
         text: &mut String,
     ) -> Option<Self> {
-        take_record_json::<Self, TripFields>(alloc, place, input, text)
+        nano_json_schema::take_record_json::<Self, TripFields>(alloc, place, input, text)
     }
 }
-
-// ---- RON
 
 impl RonCodec for Trip {
     ghost ron = { ron_of ⟦<Trip as StructSchema>⟧.view ⟦<TripFields as RonShape>⟧.codec refl };
@@ -624,12 +577,12 @@ impl RonCodec for Trip {
 
 impl SerRon for Trip {
     fn ser_ron(&self, alloc: Global, d: usize, s: &mut SerRonState) -> Result<(), AllocError> {
-        write_record_ron::<Self, TripFields>(self, alloc, d, s)
+        nano_ron_schema::write_record_ron::<Self, TripFields>(self, alloc, d, s)
     }
 }
 
 impl DeRon for Trip {
     fn de_ron(alloc: Global, state: &mut DeRonState, input: &mut Chars<'_>) -> RonResult<Self> {
-        read_record_ron::<Self, TripFields>(alloc, state, input)
+        nano_ron_schema::read_record_ron::<Self, TripFields>(alloc, state, input)
     }
 }

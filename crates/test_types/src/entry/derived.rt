@@ -7,16 +7,10 @@ ghost use Rattle.nano_json_schema.specs.Structs.{codec_as as json_as};
 ghost use Rattle.nano_ron_schema.specs.Structs.{codec_as as ron_as};
 
 use super::*;
-use nano_bin_schema::{
-    BinCodec, BinShape, DeBin, DeBinErr, SerBin, read_record_bin, write_record_bin,
-};
-use nano_json_schema::{
-    DeJson, DeJsonState, JsonCodec, JsonResult, SerJson, SerJsonState, read_parts_json,
-};
-use nano_ron_schema::{
-    DeRon, DeRonState, RonCodec, RonResult, SerRon, SerRonState, read_parts_ron,
-};
-use nano_schema::{Borrowed, FieldRefs, Shape, StructSchema, Tuple, Value, known_record};
+use nano_bin_schema::{BinCodec, BinShape, DeBin, DeBinErr, SerBin};
+use nano_json_schema::{DeJson, DeJsonState, JsonCodec, JsonResult, SerJson, SerJsonState};
+use nano_ron_schema::{DeRon, DeRonState, RonCodec, RonResult, SerRon, SerRonState};
+use nano_schema::{Borrowed, FieldRefs, Shape, StructSchema, Tuple, Value};
 use std::alloc::{AllocError, Global};
 use std::str::Chars;
 
@@ -36,7 +30,7 @@ impl StructSchema for Entry {
 }
 
 impl<'a> FieldRefs<'a> for Entry {
-    type Refs = (&'a u64, &'a Option<String>, &'a Point, &'a bool);
+    type Refs = <EntryFields as Borrowed<'a>>::Refs;
 
     ghost values = { ⟦<EntryFields as Borrowed<'a>>⟧.values };
 
@@ -51,11 +45,9 @@ impl Value for Entry {
     ghost legal = { ⟦<EntryFields as Shape>⟧.legal };
 
     fn known(&self) {
-        known_record::<Self, EntryFields>(self);
+        nano_schema::known_record::<Self, EntryFields>(self);
     }
 }
-
-// ---- bytes
 
 impl BinCodec for Entry {
     ghost bin = { bin_of ⟦<Entry as StructSchema>⟧.view ⟦<EntryFields as BinShape>⟧.codec };
@@ -65,7 +57,7 @@ impl BinCodec for Entry {
 
 impl SerBin for Entry {
     fn ser_bin(&self, alloc: Global, output: &mut Vec<u8>) -> Result<(), AllocError> {
-        write_record_bin::<Self, EntryFields>(self, alloc, output)
+        nano_bin_schema::write_record_bin::<Self, EntryFields>(self, alloc, output)
     }
 }
 
@@ -73,11 +65,9 @@ impl DeBin for Entry {
     ghost is_decodable = { refl };
 
     fn de_bin(alloc: Global, offset: &mut usize, bytes: &[u8]) -> Result<Self, DeBinErr> {
-        read_record_bin::<Self, EntryFields>(alloc, offset, bytes)
+        nano_bin_schema::read_record_bin::<Self, EntryFields>(alloc, offset, bytes)
     }
 }
-
-// ---- JSON
 
 impl JsonCodec for Entry {
     ghost json = { json_as ⟦<Entry as StructSchema>⟧.view ⟦<EntryValues as JsonCodec>⟧.json };
@@ -99,11 +89,9 @@ impl SerJson for Entry {
 
 impl DeJson for Entry {
     fn de_json(alloc: Global, state: &mut DeJsonState, input: &mut Chars<'_>) -> JsonResult<Self> {
-        read_parts_json::<Self, EntryValues>(alloc, state, input)
+        nano_json_schema::read_parts_json::<Self, EntryValues>(alloc, state, input)
     }
 }
-
-// ---- RON
 
 impl RonCodec for Entry {
     ghost ron = { ron_as ⟦<Entry as StructSchema>⟧.view ⟦<EntryValues as RonCodec>⟧.ron };
@@ -125,6 +113,6 @@ impl SerRon for Entry {
 
 impl DeRon for Entry {
     fn de_ron(alloc: Global, state: &mut DeRonState, input: &mut Chars<'_>) -> RonResult<Self> {
-        read_parts_ron::<Self, EntryValues>(alloc, state, input)
+        nano_ron_schema::read_parts_ron::<Self, EntryValues>(alloc, state, input)
     }
 }

@@ -8,20 +8,14 @@ ghost use Rattle.nano_json_schema.specs.Enums.{json_choice};
 ghost use Rattle.nano_ron_schema.specs.Enums.{ron_choice};
 
 use super::*;
-use nano_bin_schema::{
-    BinCodec, BinShapes, DeBin, DeBinErr, SerBin, read_choice_bin, write_choice_bin,
-};
+use nano_bin_schema::{BinCodec, BinShapes, DeBin, DeBinErr, SerBin};
 use nano_json_schema::{
     DeJson, DeJsonState, JsonCodec, JsonResult, JsonShapes, SerJson, SerJsonState,
-    read_choice_json, write_choice_json,
 };
-use nano_ron_schema::{
-    DeRon, DeRonState, RonCodec, RonResult, RonShapes, SerRon, SerRonState, read_choice_ron,
-    write_choice_ron,
-};
+use nano_ron_schema::{DeRon, DeRonState, RonCodec, RonResult, RonShapes, SerRon, SerRonState};
 use nano_schema::{
     BorrowedChoices, Choices, Either, EnumSchema, Label, Required, Struct, Tuple, Unit, Value,
-    Variant, VariantRefs, known_variant,
+    Variant, VariantRefs,
 };
 use std::alloc::{AllocError, Global};
 use std::str::Chars;
@@ -29,16 +23,11 @@ use std::str::Chars;
 struct EventNames<const I: usize> {}
 
 impl<const I: usize> Label for EventNames<I> {
-    ghost label = { if I == 0 then codes "Stop"
-        else if I == 1 then codes "Move"
+    ghost label = { if I == 0 then codes "Stop" else if I == 1 then codes "Move"
         else codes "Say" };
 
     fn text() -> &'static str {
-        match I {
-            0 => "Stop",
-            1 => "Move",
-            _ => "Say",
-        }
+        nano_schema::name_of!(I, 0 => "Stop", 1 => "Move", _ => "Say")
     }
 }
 
@@ -47,14 +36,10 @@ type EventMoveParts = (u32, String);
 struct EventSayNames<const I: usize> {}
 
 impl<const I: usize> Label for EventSayNames<I> {
-    ghost label = { if I == 0 then codes "text"
-        else codes "times" };
+    ghost label = { if I == 0 then codes "text" else codes "times" };
 
     fn text() -> &'static str {
-        match I {
-            0 => "text",
-            _ => "times",
-        }
+        nano_schema::name_of!(I, 0 => "text", _ => "times")
     }
 }
 
@@ -144,11 +129,9 @@ impl Value for Event {
     ghost legal = { LegalVariant ⟦<EventVariants as Choices>⟧.legals };
 
     fn known(&self) {
-        known_variant::<Self, EventVariants>(self);
+        nano_schema::known_variant::<Self, EventVariants>(self);
     }
 }
-
-// ---- bytes
 
 impl BinCodec for Event {
     ghost bin = { bin_choice ⟦<Event as EnumSchema>⟧.view ⟦<EventVariants as BinShapes>⟧.chosen
@@ -159,7 +142,7 @@ impl BinCodec for Event {
 
 impl SerBin for Event {
     fn ser_bin(&self, alloc: Global, output: &mut Vec<u8>) -> Result<(), AllocError> {
-        write_choice_bin::<Self, EventVariants>(self, alloc, output)
+        nano_bin_schema::write_choice_bin::<Self, EventVariants>(self, alloc, output)
     }
 }
 
@@ -167,11 +150,9 @@ impl DeBin for Event {
     ghost is_decodable = { refl };
 
     fn de_bin(alloc: Global, offset: &mut usize, bytes: &[u8]) -> Result<Self, DeBinErr> {
-        read_choice_bin::<Self, EventVariants>(alloc, offset, bytes)
+        nano_bin_schema::read_choice_bin::<Self, EventVariants>(alloc, offset, bytes)
     }
 }
-
-// ---- JSON
 
 impl JsonCodec for Event {
     ghost json = { json_choice ⟦<Event as EnumSchema>⟧.view ⟦<EventVariants as JsonShapes>⟧.codec
@@ -182,17 +163,15 @@ impl JsonCodec for Event {
 
 impl SerJson for Event {
     fn ser_json(&self, alloc: Global, d: usize, s: &mut SerJsonState) -> Result<(), AllocError> {
-        write_choice_json::<Self, EventVariants>(self, alloc, d, s)
+        nano_json_schema::write_choice_json::<Self, EventVariants>(self, alloc, d, s)
     }
 }
 
 impl DeJson for Event {
     fn de_json(alloc: Global, state: &mut DeJsonState, input: &mut Chars<'_>) -> JsonResult<Self> {
-        read_choice_json::<Self, EventVariants>(alloc, state, input)
+        nano_json_schema::read_choice_json::<Self, EventVariants>(alloc, state, input)
     }
 }
-
-// ---- RON
 
 impl RonCodec for Event {
     ghost ron = { ron_choice ⟦<Event as EnumSchema>⟧.view ⟦<EventVariants as RonShapes>⟧.codec
@@ -203,12 +182,12 @@ impl RonCodec for Event {
 
 impl SerRon for Event {
     fn ser_ron(&self, alloc: Global, d: usize, s: &mut SerRonState) -> Result<(), AllocError> {
-        write_choice_ron::<Self, EventVariants>(self, alloc, d, s)
+        nano_ron_schema::write_choice_ron::<Self, EventVariants>(self, alloc, d, s)
     }
 }
 
 impl DeRon for Event {
     fn de_ron(alloc: Global, state: &mut DeRonState, input: &mut Chars<'_>) -> RonResult<Self> {
-        read_choice_ron::<Self, EventVariants>(alloc, state, input)
+        nano_ron_schema::read_choice_ron::<Self, EventVariants>(alloc, state, input)
     }
 }

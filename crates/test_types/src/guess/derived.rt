@@ -9,38 +9,24 @@ ghost use Rattle.nano_bin_schema.specs.Enums.{bin_choice};
 ghost use Rattle.nano_bin_schema.specs.Structs.{both_are_read};
 
 use super::*;
-use nano_bin_schema::{
-    BinCodec, BinShapes, DeBin, DeBinErr, SerBin, read_choice_bin, write_choice_bin,
-};
+use nano_bin_schema::{BinCodec, BinShapes, DeBin, DeBinErr, SerBin};
 use nano_schema::{
     BorrowedChoices, Choices, Either, EnumSchema, Label, Newtype, Optional, Required, Struct,
-    Tuple, Unit, Value, Variant, VariantRefs, known_variant,
+    Tuple, Unit, Value, Variant, VariantRefs,
 };
 use std::alloc::{AllocError, Global};
 
 struct GuessNames<const I: usize> {}
 
 impl<const I: usize> Label for GuessNames<I> {
-    ghost label = { if I == 0 then codes "Nothing"
-        else if I == 1 then codes "Is"
-        else if I == 2 then codes "OneOf"
-        else if I == 3 then codes "Likely"
-        else if I == 4 then codes "Between"
-        else if I == 5 then codes "Was"
-        else if I == 6 then codes "AtLeast"
-        else codes "Neither" };
+    ghost label = { if I == 0 then codes "Nothing" else if I == 1 then codes "Is"
+        else if I == 2 then codes "OneOf" else if I == 3 then codes "Likely"
+        else if I == 4 then codes "Between" else if I == 5 then codes "Was"
+        else if I == 6 then codes "AtLeast" else codes "Neither" };
 
     fn text() -> &'static str {
-        match I {
-            0 => "Nothing",
-            1 => "Is",
-            2 => "OneOf",
-            3 => "Likely",
-            4 => "Between",
-            5 => "Was",
-            6 => "AtLeast",
-            _ => "Neither",
-        }
+        nano_schema::name_of!(I, 0 => "Nothing", 1 => "Is", 2 => "OneOf", 3 => "Likely",
+            4 => "Between", 5 => "Was", 6 => "AtLeast", _ => "Neither")
     }
 }
 
@@ -53,14 +39,10 @@ type GuessLikelyParts<T> = (T, u8);
 struct GuessBetweenNames<const I: usize> {}
 
 impl<const I: usize> Label for GuessBetweenNames<I> {
-    ghost label = { if I == 0 then codes "least"
-        else codes "most" };
+    ghost label = { if I == 0 then codes "least" else codes "most" };
 
     fn text() -> &'static str {
-        match I {
-            0 => "least",
-            _ => "most",
-        }
+        nano_schema::name_of!(I, 0 => "least", _ => "most")
     }
 }
 
@@ -268,11 +250,9 @@ impl<T: Value> Value for Guess<T> {
     ghost legal = { LegalVariant ⟦<GuessVariants<T> as Choices>⟧.legals };
 
     fn known(&self) {
-        known_variant::<Self, GuessVariants<T>>(self);
+        nano_schema::known_variant::<Self, GuessVariants<T>>(self);
     }
 }
-
-// ---- bytes
 
 impl<T: BinCodec> BinCodec for Guess<T> {
     ghost bin = { bin_choice ⟦<Guess<T> as EnumSchema>⟧.view
@@ -291,7 +271,7 @@ impl<T: BinCodec> BinCodec for Guess<T> {
 
 impl<T: SerBin> SerBin for Guess<T> {
     fn ser_bin(&self, alloc: Global, output: &mut Vec<u8>) -> Result<(), AllocError> {
-        write_choice_bin::<Self, GuessVariants<T>>(self, alloc, output)
+        nano_bin_schema::write_choice_bin::<Self, GuessVariants<T>>(self, alloc, output)
     }
 }
 
@@ -303,6 +283,6 @@ impl<T: DeBin> DeBin for Guess<T> {
         T.is_decodable T.is_decodable)) refl)))))))) };
 
     fn de_bin(alloc: Global, offset: &mut usize, bytes: &[u8]) -> Result<Self, DeBinErr> {
-        read_choice_bin::<Self, GuessVariants<T>>(alloc, offset, bytes)
+        nano_bin_schema::read_choice_bin::<Self, GuessVariants<T>>(alloc, offset, bytes)
     }
 }

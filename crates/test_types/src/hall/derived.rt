@@ -7,18 +7,12 @@ ghost use Rattle.nano_json_schema.specs.Structs.{codec_as as json_as, json_of};
 ghost use Rattle.nano_ron_schema.specs.Structs.{codec_as as ron_as, ron_of};
 
 use super::*;
-use nano_bin_schema::{
-    BinCodec, BinShape, DeBin, DeBinErr, SerBin, read_record_bin, write_record_bin,
-};
+use nano_bin_schema::{BinCodec, BinShape, DeBin, DeBinErr, SerBin};
 use nano_json_schema::{
     DeJson, DeJsonState, JsonCodec, JsonResult, JsonShape, Place, SerJson, SerJsonState,
-    read_record_json, take_record_json, write_record_json,
 };
-use nano_ron_schema::{
-    DeRon, DeRonState, RonCodec, RonResult, RonShape, SerRon, SerRonState, read_record_ron,
-    write_record_ron,
-};
-use nano_schema::{Borrowed, FieldRefs, Label, Required, Shape, StructSchema, Value, known_record};
+use nano_ron_schema::{DeRon, DeRonState, RonCodec, RonResult, RonShape, SerRon, SerRonState};
+use nano_schema::{Borrowed, FieldRefs, Label, Required, Shape, StructSchema, Value};
 use std::alloc::{AllocError, Global};
 use std::str::Chars;
 
@@ -33,8 +27,6 @@ impl Value for Visits {
         Value::known(&self.0);
     }
 }
-
-// ---- bytes
 
 impl BinCodec for Visits {
     ghost bin = { bin_as (λ x. x.0) ⟦<VisitsFields as BinCodec>⟧.bin };
@@ -59,8 +51,6 @@ impl DeBin for Visits {
     }
 }
 
-// ---- JSON
-
 impl JsonCodec for Visits {
     ghost json = { json_as (λ x. x.0) ⟦<VisitsFields as JsonCodec>⟧.json };
 
@@ -81,8 +71,6 @@ impl DeJson for Visits {
         }
     }
 }
-
-// ---- RON
 
 impl RonCodec for Visits {
     ghost ron = { ron_as (λ x. x.0) ⟦<VisitsFields as RonCodec>⟧.ron };
@@ -117,8 +105,6 @@ impl Value for Greetings {
     }
 }
 
-// ---- bytes
-
 impl BinCodec for Greetings {
     ghost bin = { bin_as (λ x. x.0) ⟦<GreetingsFields as BinCodec>⟧.bin };
 
@@ -142,8 +128,6 @@ impl DeBin for Greetings {
     }
 }
 
-// ---- JSON
-
 impl JsonCodec for Greetings {
     ghost json = { json_as (λ x. x.0) ⟦<GreetingsFields as JsonCodec>⟧.json };
 
@@ -164,8 +148,6 @@ impl DeJson for Greetings {
         }
     }
 }
-
-// ---- RON
 
 impl RonCodec for Greetings {
     ghost ron = { ron_as (λ x. x.0) ⟦<GreetingsFields as RonCodec>⟧.ron };
@@ -200,8 +182,6 @@ impl Value for Seats {
     }
 }
 
-// ---- bytes
-
 impl BinCodec for Seats {
     ghost bin = { bin_as (λ x. x.0) ⟦<SeatsFields as BinCodec>⟧.bin };
 
@@ -225,8 +205,6 @@ impl DeBin for Seats {
     }
 }
 
-// ---- JSON
-
 impl JsonCodec for Seats {
     ghost json = { json_as (λ x. x.0) ⟦<SeatsFields as JsonCodec>⟧.json };
 
@@ -247,8 +225,6 @@ impl DeJson for Seats {
         }
     }
 }
-
-// ---- RON
 
 impl RonCodec for Seats {
     ghost ron = { ron_as (λ x. x.0) ⟦<SeatsFields as RonCodec>⟧.ron };
@@ -274,16 +250,11 @@ impl DeRon for Seats {
 struct HallNames<const I: usize> {}
 
 impl<const I: usize> Label for HallNames<I> {
-    ghost label = { if I == 0 then codes "visits"
-        else if I == 1 then codes "greetings"
+    ghost label = { if I == 0 then codes "visits" else if I == 1 then codes "greetings"
         else codes "taken" };
 
     fn text() -> &'static str {
-        match I {
-            0 => "visits",
-            1 => "greetings",
-            _ => "taken",
-        }
+        nano_schema::name_of!(I, 0 => "visits", 1 => "greetings", _ => "taken")
     }
 }
 
@@ -296,7 +267,7 @@ type HallFields = (
 );
 
 impl StructSchema for Hall {
-    type Values = (Visits, (Greetings, Seats));
+    type Values = <HallFields as Shape>::Values;
 
     ghost view = { λ x. (x.visits, (x.greetings, x.taken)) };
 
@@ -311,7 +282,7 @@ impl StructSchema for Hall {
 }
 
 impl<'a> FieldRefs<'a> for Hall {
-    type Refs = (&'a Visits, (&'a Greetings, &'a Seats));
+    type Refs = <HallFields as Borrowed<'a>>::Refs;
 
     ghost values = { ⟦<HallFields as Borrowed<'a>>⟧.values };
 
@@ -326,11 +297,9 @@ impl Value for Hall {
     ghost legal = { ⟦<HallFields as Shape>⟧.legal };
 
     fn known(&self) {
-        known_record::<Self, HallFields>(self);
+        nano_schema::known_record::<Self, HallFields>(self);
     }
 }
-
-// ---- bytes
 
 impl BinCodec for Hall {
     ghost bin = { bin_of ⟦<Hall as StructSchema>⟧.view ⟦<HallFields as BinShape>⟧.codec };
@@ -340,7 +309,7 @@ impl BinCodec for Hall {
 
 impl SerBin for Hall {
     fn ser_bin(&self, alloc: Global, output: &mut Vec<u8>) -> Result<(), AllocError> {
-        write_record_bin::<Self, HallFields>(self, alloc, output)
+        nano_bin_schema::write_record_bin::<Self, HallFields>(self, alloc, output)
     }
 }
 
@@ -348,11 +317,9 @@ impl DeBin for Hall {
     ghost is_decodable = { refl };
 
     fn de_bin(alloc: Global, offset: &mut usize, bytes: &[u8]) -> Result<Self, DeBinErr> {
-        read_record_bin::<Self, HallFields>(alloc, offset, bytes)
+        nano_bin_schema::read_record_bin::<Self, HallFields>(alloc, offset, bytes)
     }
 }
-
-// ---- JSON
 
 impl JsonCodec for Hall {
     ghost json = { json_of ⟦<Hall as StructSchema>⟧.view ⟦<HallFields as JsonShape>⟧.codec refl };
@@ -362,13 +329,13 @@ impl JsonCodec for Hall {
 
 impl SerJson for Hall {
     fn ser_json(&self, alloc: Global, d: usize, s: &mut SerJsonState) -> Result<(), AllocError> {
-        write_record_json::<Self, HallFields>(self, alloc, d, s)
+        nano_json_schema::write_record_json::<Self, HallFields>(self, alloc, d, s)
     }
 }
 
 impl DeJson for Hall {
     fn de_json(alloc: Global, state: &mut DeJsonState, input: &mut Chars<'_>) -> JsonResult<Self> {
-        read_record_json::<Self, HallFields>(alloc, state, input)
+        nano_json_schema::read_record_json::<Self, HallFields>(alloc, state, input)
     }
 
     fn de_json_plain(
@@ -377,11 +344,9 @@ impl DeJson for Hall {
         input: &mut Chars<'_>,
         text: &mut String,
     ) -> Option<Self> {
-        take_record_json::<Self, HallFields>(alloc, place, input, text)
+        nano_json_schema::take_record_json::<Self, HallFields>(alloc, place, input, text)
     }
 }
-
-// ---- RON
 
 impl RonCodec for Hall {
     ghost ron = { ron_of ⟦<Hall as StructSchema>⟧.view ⟦<HallFields as RonShape>⟧.codec refl };
@@ -391,12 +356,12 @@ impl RonCodec for Hall {
 
 impl SerRon for Hall {
     fn ser_ron(&self, alloc: Global, d: usize, s: &mut SerRonState) -> Result<(), AllocError> {
-        write_record_ron::<Self, HallFields>(self, alloc, d, s)
+        nano_ron_schema::write_record_ron::<Self, HallFields>(self, alloc, d, s)
     }
 }
 
 impl DeRon for Hall {
     fn de_ron(alloc: Global, state: &mut DeRonState, input: &mut Chars<'_>) -> RonResult<Self> {
-        read_record_ron::<Self, HallFields>(alloc, state, input)
+        nano_ron_schema::read_record_ron::<Self, HallFields>(alloc, state, input)
     }
 }

@@ -14,21 +14,14 @@ ghost use Rattle.nano_json_schema.specs.Enums.{json_choice};
 ghost use Rattle.nano_ron_schema.specs.Enums.{ron_choice};
 
 use super::*;
-use nano_bin_schema::{
-    BinCodec, BinShape, BinShapes, DeBin, DeBinErr, SerBin, read_choice_bin, read_record_bin,
-    write_choice_bin, write_record_bin,
-};
+use nano_bin_schema::{BinCodec, BinShape, BinShapes, DeBin, DeBinErr, SerBin};
 use nano_json_schema::{
     DeJson, DeJsonState, JsonCodec, JsonResult, JsonShapes, SerJson, SerJsonState,
-    read_choice_json, read_parts_json, write_choice_json,
 };
-use nano_ron_schema::{
-    DeRon, DeRonState, RonCodec, RonResult, RonShapes, SerRon, SerRonState, read_choice_ron,
-    read_parts_ron, write_choice_ron,
-};
+use nano_ron_schema::{DeRon, DeRonState, RonCodec, RonResult, RonShapes, SerRon, SerRonState};
 use nano_schema::{
     Borrowed, BorrowedChoices, Choices, Either, EnumSchema, FieldRefs, Key, Label, OrderedKey,
-    Shape, StructSchema, Tuple, Unit, Value, Variant, VariantRefs, known_record, known_variant,
+    Shape, StructSchema, Tuple, Unit, Value, Variant, VariantRefs,
 };
 use std::alloc::{AllocError, Global};
 use std::str::Chars;
@@ -44,8 +37,6 @@ impl Value for UserId {
         Value::known(&self.0);
     }
 }
-
-// ---- bytes
 
 impl BinCodec for UserId {
     ghost bin = { bin_as (λ x. x.0) ⟦<UserIdFields as BinCodec>⟧.bin };
@@ -70,8 +61,6 @@ impl DeBin for UserId {
     }
 }
 
-// ---- JSON
-
 impl JsonCodec for UserId {
     ghost json = { json_as (λ x. x.0) ⟦<UserIdFields as JsonCodec>⟧.json };
 
@@ -92,8 +81,6 @@ impl DeJson for UserId {
         }
     }
 }
-
-// ---- RON
 
 impl RonCodec for UserId {
     ghost ron = { ron_as (λ x. x.0) ⟦<UserIdFields as RonCodec>⟧.ron };
@@ -140,8 +127,6 @@ impl Value for HallName {
     }
 }
 
-// ---- bytes
-
 impl BinCodec for HallName {
     ghost bin = { bin_as (λ x. x.0) ⟦<HallNameFields as BinCodec>⟧.bin };
 
@@ -165,8 +150,6 @@ impl DeBin for HallName {
     }
 }
 
-// ---- JSON
-
 impl JsonCodec for HallName {
     ghost json = { json_as (λ x. x.0) ⟦<HallNameFields as JsonCodec>⟧.json };
 
@@ -187,8 +170,6 @@ impl DeJson for HallName {
         }
     }
 }
-
-// ---- RON
 
 impl RonCodec for HallName {
     ghost ron = { ron_as (λ x. x.0) ⟦<HallNameFields as RonCodec>⟧.ron };
@@ -226,18 +207,11 @@ impl OrderedKey for HallName {
 struct RoleNames<const I: usize> {}
 
 impl<const I: usize> Label for RoleNames<I> {
-    ghost label = { if I == 0 then codes "Guest"
-        else if I == 1 then codes "Member"
-        else if I == 2 then codes "Moderator"
-        else codes "Owner" };
+    ghost label = { if I == 0 then codes "Guest" else if I == 1 then codes "Member"
+        else if I == 2 then codes "Moderator" else codes "Owner" };
 
     fn text() -> &'static str {
-        match I {
-            0 => "Guest",
-            1 => "Member",
-            2 => "Moderator",
-            _ => "Owner",
-        }
+        nano_schema::name_of!(I, 0 => "Guest", 1 => "Member", 2 => "Moderator", _ => "Owner")
     }
 }
 
@@ -338,11 +312,9 @@ impl Value for Role {
     ghost legal = { LegalVariant ⟦<RoleVariants as Choices>⟧.legals };
 
     fn known(&self) {
-        known_variant::<Self, RoleVariants>(self);
+        nano_schema::known_variant::<Self, RoleVariants>(self);
     }
 }
-
-// ---- bytes
 
 impl BinCodec for Role {
     ghost bin = { bin_choice ⟦<Role as EnumSchema>⟧.view ⟦<RoleVariants as BinShapes>⟧.chosen
@@ -353,7 +325,7 @@ impl BinCodec for Role {
 
 impl SerBin for Role {
     fn ser_bin(&self, alloc: Global, output: &mut Vec<u8>) -> Result<(), AllocError> {
-        write_choice_bin::<Self, RoleVariants>(self, alloc, output)
+        nano_bin_schema::write_choice_bin::<Self, RoleVariants>(self, alloc, output)
     }
 }
 
@@ -361,11 +333,9 @@ impl DeBin for Role {
     ghost is_decodable = { refl };
 
     fn de_bin(alloc: Global, offset: &mut usize, bytes: &[u8]) -> Result<Self, DeBinErr> {
-        read_choice_bin::<Self, RoleVariants>(alloc, offset, bytes)
+        nano_bin_schema::read_choice_bin::<Self, RoleVariants>(alloc, offset, bytes)
     }
 }
-
-// ---- JSON
 
 impl JsonCodec for Role {
     ghost json = { json_choice ⟦<Role as EnumSchema>⟧.view ⟦<RoleVariants as JsonShapes>⟧.codec
@@ -376,17 +346,15 @@ impl JsonCodec for Role {
 
 impl SerJson for Role {
     fn ser_json(&self, alloc: Global, d: usize, s: &mut SerJsonState) -> Result<(), AllocError> {
-        write_choice_json::<Self, RoleVariants>(self, alloc, d, s)
+        nano_json_schema::write_choice_json::<Self, RoleVariants>(self, alloc, d, s)
     }
 }
 
 impl DeJson for Role {
     fn de_json(alloc: Global, state: &mut DeJsonState, input: &mut Chars<'_>) -> JsonResult<Self> {
-        read_choice_json::<Self, RoleVariants>(alloc, state, input)
+        nano_json_schema::read_choice_json::<Self, RoleVariants>(alloc, state, input)
     }
 }
-
-// ---- RON
 
 impl RonCodec for Role {
     ghost ron = { ron_choice ⟦<Role as EnumSchema>⟧.view ⟦<RoleVariants as RonShapes>⟧.codec refl
@@ -397,13 +365,13 @@ impl RonCodec for Role {
 
 impl SerRon for Role {
     fn ser_ron(&self, alloc: Global, d: usize, s: &mut SerRonState) -> Result<(), AllocError> {
-        write_choice_ron::<Self, RoleVariants>(self, alloc, d, s)
+        nano_ron_schema::write_choice_ron::<Self, RoleVariants>(self, alloc, d, s)
     }
 }
 
 impl DeRon for Role {
     fn de_ron(alloc: Global, state: &mut DeRonState, input: &mut Chars<'_>) -> RonResult<Self> {
-        read_choice_ron::<Self, RoleVariants>(alloc, state, input)
+        nano_ron_schema::read_choice_ron::<Self, RoleVariants>(alloc, state, input)
     }
 }
 
@@ -457,7 +425,7 @@ impl StructSchema for Seat {
 }
 
 impl<'a> FieldRefs<'a> for Seat {
-    type Refs = (&'a HallName, &'a u16);
+    type Refs = <SeatFields as Borrowed<'a>>::Refs;
 
     ghost values = { ⟦<SeatFields as Borrowed<'a>>⟧.values };
 
@@ -472,11 +440,9 @@ impl Value for Seat {
     ghost legal = { ⟦<SeatFields as Shape>⟧.legal };
 
     fn known(&self) {
-        known_record::<Self, SeatFields>(self);
+        nano_schema::known_record::<Self, SeatFields>(self);
     }
 }
-
-// ---- bytes
 
 impl BinCodec for Seat {
     ghost bin = { bin_of ⟦<Seat as StructSchema>⟧.view ⟦<SeatFields as BinShape>⟧.codec };
@@ -486,7 +452,7 @@ impl BinCodec for Seat {
 
 impl SerBin for Seat {
     fn ser_bin(&self, alloc: Global, output: &mut Vec<u8>) -> Result<(), AllocError> {
-        write_record_bin::<Self, SeatFields>(self, alloc, output)
+        nano_bin_schema::write_record_bin::<Self, SeatFields>(self, alloc, output)
     }
 }
 
@@ -494,11 +460,9 @@ impl DeBin for Seat {
     ghost is_decodable = { refl };
 
     fn de_bin(alloc: Global, offset: &mut usize, bytes: &[u8]) -> Result<Self, DeBinErr> {
-        read_record_bin::<Self, SeatFields>(alloc, offset, bytes)
+        nano_bin_schema::read_record_bin::<Self, SeatFields>(alloc, offset, bytes)
     }
 }
-
-// ---- JSON
 
 impl JsonCodec for Seat {
     ghost json = { json_as ⟦<Seat as StructSchema>⟧.view ⟦<SeatValues as JsonCodec>⟧.json };
@@ -518,11 +482,9 @@ impl SerJson for Seat {
 
 impl DeJson for Seat {
     fn de_json(alloc: Global, state: &mut DeJsonState, input: &mut Chars<'_>) -> JsonResult<Self> {
-        read_parts_json::<Self, SeatValues>(alloc, state, input)
+        nano_json_schema::read_parts_json::<Self, SeatValues>(alloc, state, input)
     }
 }
-
-// ---- RON
 
 impl RonCodec for Seat {
     ghost ron = { ron_as ⟦<Seat as StructSchema>⟧.view ⟦<SeatValues as RonCodec>⟧.ron };
@@ -542,7 +504,7 @@ impl SerRon for Seat {
 
 impl DeRon for Seat {
     fn de_ron(alloc: Global, state: &mut DeRonState, input: &mut Chars<'_>) -> RonResult<Self> {
-        read_parts_ron::<Self, SeatValues>(alloc, state, input)
+        nano_ron_schema::read_parts_ron::<Self, SeatValues>(alloc, state, input)
     }
 }
 

@@ -1,8 +1,8 @@
 //! Written by derive_files: how the types of the module above are encoded.
 
 ghost use Rattle.std.specs.Prelude.{codes, ◌==◌, if◌then◌else◌, refl};
-ghost use Rattle.nano_schema.specs.UserTypes.{whole, agreed, LegalVariant};
 ghost use Rattle.nano_bin_schema.specs.Structs.{bin_of};
+ghost use Rattle.nano_schema.specs.UserTypes.{agreed, LegalVariant};
 ghost use Rattle.nano_json_schema.specs.Structs.{json_of};
 ghost use Rattle.nano_ron_schema.specs.Structs.{ron_of};
 ghost use Rattle.nano_schema.specs.declared.choices.Either.TheVariants.{First, Later};
@@ -11,23 +11,17 @@ ghost use Rattle.nano_json_schema.specs.Enums.{json_choice};
 ghost use Rattle.nano_ron_schema.specs.Enums.{ron_choice};
 
 use super::*;
-use nano_bin_schema::{
-    BinCodec, BinShape, BinShapes, DeBin, DeBinErr, SerBin, read_choice_bin, read_record_bin,
-    write_choice_bin, write_record_bin,
-};
+use nano_bin_schema::{BinCodec, BinShape, BinShapes, DeBin, DeBinErr, SerBin};
 use nano_json_schema::{
-    DeJson, DeJsonState, JsonCodec, JsonDefaultOf, JsonResult, JsonShape, JsonShapes, Place,
-    SerJson, SerJsonState, read_choice_json, read_record_json, take_record_json, write_choice_json,
-    write_record_json,
+    DeJson, DeJsonState, JsonCodec, JsonResult, JsonShape, JsonShapes, Place, SerJson, SerJsonState,
 };
 use nano_ron_schema::{
-    DeRon, DeRonState, RonCodec, RonDefaultOf, RonResult, RonShape, RonShapes, SerRon, SerRonState,
-    read_choice_ron, read_record_ron, write_choice_ron, write_record_ron,
+    DeRon, DeRonState, RonCodec, RonResult, RonShape, RonShapes, SerRon, SerRonState,
 };
 use nano_schema::{
-    Aliased, Borrowed, BorrowedChoices, Choices, DefaultOf, Defaulted, Either, EnumSchema,
+    Aliased, Borrowed, BorrowedChoices, Choices, DefaultU16, Defaulted, Either, EnumSchema,
     FieldRefs, Label, Optional, Required, Shape, Struct, StructSchema, Unit, Value, Variant,
-    VariantRefs, known_record, known_variant,
+    VariantRefs,
 };
 use std::alloc::{AllocError, Global};
 use std::str::Chars;
@@ -35,56 +29,26 @@ use std::str::Chars;
 struct MovedNames<const I: usize> {}
 
 impl<const I: usize> Label for MovedNames<I> {
-    ghost label = { if I == 0 then codes "host"
-        else if I == 1 then codes "hostname"
-        else if I == 2 then codes "contact"
-        else if I == 3 then codes "owner"
-        else if I == 4 then codes "admin"
-        else if I == 5 then codes "port"
-        else codes "tcp_port" };
+    ghost label = { if I == 0 then codes "host" else if I == 1 then codes "hostname"
+        else if I == 2 then codes "contact" else if I == 3 then codes "owner"
+        else if I == 4 then codes "admin" else if I == 5 then codes "port" else codes "tcp_port" };
 
     fn text() -> &'static str {
-        match I {
-            0 => "host",
-            1 => "hostname",
-            2 => "contact",
-            3 => "owner",
-            4 => "admin",
-            5 => "port",
-            _ => "tcp_port",
-        }
+        nano_schema::name_of!(I, 0 => "host", 1 => "hostname", 2 => "contact", 3 => "owner",
+            4 => "admin", 5 => "port", _ => "tcp_port")
     }
-}
-
-/// The default of `port`.
-struct MovedPortDefault {}
-
-impl DefaultOf<u16> for MovedPortDefault {
-    ghost missing = { whole 8080 };
-
-    fn default(_alloc: Global) -> Result<u16, AllocError> {
-        Ok(8080)
-    }
-}
-
-impl JsonDefaultOf<u16> for MovedPortDefault {
-    ghost is_sound = { λ x e. tt };
-}
-
-impl RonDefaultOf<u16> for MovedPortDefault {
-    ghost is_sound = { λ x e. tt };
 }
 
 type MovedFields = (
     Aliased<MovedNames<1>, Required<MovedNames<0>, String>>,
     (
         Aliased<MovedNames<4>, Aliased<MovedNames<3>, Optional<MovedNames<2>, String>>>,
-        Aliased<MovedNames<6>, Defaulted<MovedNames<5>, u16, MovedPortDefault>>,
+        Aliased<MovedNames<6>, Defaulted<MovedNames<5>, u16, DefaultU16<8080>>>,
     ),
 );
 
 impl StructSchema for Moved {
-    type Values = (String, (Option<String>, u16));
+    type Values = <MovedFields as Shape>::Values;
 
     ghost view = { λ x. (x.host, (x.contact, x.port)) };
 
@@ -99,7 +63,7 @@ impl StructSchema for Moved {
 }
 
 impl<'a> FieldRefs<'a> for Moved {
-    type Refs = (&'a String, (&'a Option<String>, &'a u16));
+    type Refs = <MovedFields as Borrowed<'a>>::Refs;
 
     ghost values = { ⟦<MovedFields as Borrowed<'a>>⟧.values };
 
@@ -114,11 +78,9 @@ impl Value for Moved {
     ghost legal = { ⟦<MovedFields as Shape>⟧.legal };
 
     fn known(&self) {
-        known_record::<Self, MovedFields>(self);
+        nano_schema::known_record::<Self, MovedFields>(self);
     }
 }
-
-// ---- bytes
 
 impl BinCodec for Moved {
     ghost bin = { bin_of ⟦<Moved as StructSchema>⟧.view ⟦<MovedFields as BinShape>⟧.codec };
@@ -128,7 +90,7 @@ impl BinCodec for Moved {
 
 impl SerBin for Moved {
     fn ser_bin(&self, alloc: Global, output: &mut Vec<u8>) -> Result<(), AllocError> {
-        write_record_bin::<Self, MovedFields>(self, alloc, output)
+        nano_bin_schema::write_record_bin::<Self, MovedFields>(self, alloc, output)
     }
 }
 
@@ -136,11 +98,9 @@ impl DeBin for Moved {
     ghost is_decodable = { refl };
 
     fn de_bin(alloc: Global, offset: &mut usize, bytes: &[u8]) -> Result<Self, DeBinErr> {
-        read_record_bin::<Self, MovedFields>(alloc, offset, bytes)
+        nano_bin_schema::read_record_bin::<Self, MovedFields>(alloc, offset, bytes)
     }
 }
-
-// ---- JSON
 
 impl JsonCodec for Moved {
     ghost json = { json_of ⟦<Moved as StructSchema>⟧.view ⟦<MovedFields as JsonShape>⟧.codec refl };
@@ -150,13 +110,13 @@ impl JsonCodec for Moved {
 
 impl SerJson for Moved {
     fn ser_json(&self, alloc: Global, d: usize, s: &mut SerJsonState) -> Result<(), AllocError> {
-        write_record_json::<Self, MovedFields>(self, alloc, d, s)
+        nano_json_schema::write_record_json::<Self, MovedFields>(self, alloc, d, s)
     }
 }
 
 impl DeJson for Moved {
     fn de_json(alloc: Global, state: &mut DeJsonState, input: &mut Chars<'_>) -> JsonResult<Self> {
-        read_record_json::<Self, MovedFields>(alloc, state, input)
+        nano_json_schema::read_record_json::<Self, MovedFields>(alloc, state, input)
     }
 
     fn de_json_plain(
@@ -165,11 +125,9 @@ impl DeJson for Moved {
         input: &mut Chars<'_>,
         text: &mut String,
     ) -> Option<Self> {
-        take_record_json::<Self, MovedFields>(alloc, place, input, text)
+        nano_json_schema::take_record_json::<Self, MovedFields>(alloc, place, input, text)
     }
 }
-
-// ---- RON
 
 impl RonCodec for Moved {
     ghost ron = { ron_of ⟦<Moved as StructSchema>⟧.view ⟦<MovedFields as RonShape>⟧.codec refl };
@@ -179,43 +137,33 @@ impl RonCodec for Moved {
 
 impl SerRon for Moved {
     fn ser_ron(&self, alloc: Global, d: usize, s: &mut SerRonState) -> Result<(), AllocError> {
-        write_record_ron::<Self, MovedFields>(self, alloc, d, s)
+        nano_ron_schema::write_record_ron::<Self, MovedFields>(self, alloc, d, s)
     }
 }
 
 impl DeRon for Moved {
     fn de_ron(alloc: Global, state: &mut DeRonState, input: &mut Chars<'_>) -> RonResult<Self> {
-        read_record_ron::<Self, MovedFields>(alloc, state, input)
+        nano_ron_schema::read_record_ron::<Self, MovedFields>(alloc, state, input)
     }
 }
 
 struct ChangeNames<const I: usize> {}
 
 impl<const I: usize> Label for ChangeNames<I> {
-    ghost label = { if I == 0 then codes "Started"
-        else codes "Renamed" };
+    ghost label = { if I == 0 then codes "Started" else codes "Renamed" };
 
     fn text() -> &'static str {
-        match I {
-            0 => "Started",
-            _ => "Renamed",
-        }
+        nano_schema::name_of!(I, 0 => "Started", _ => "Renamed")
     }
 }
 
 struct ChangeRenamedNames<const I: usize> {}
 
 impl<const I: usize> Label for ChangeRenamedNames<I> {
-    ghost label = { if I == 0 then codes "from"
-        else if I == 1 then codes "old"
-        else codes "to" };
+    ghost label = { if I == 0 then codes "from" else if I == 1 then codes "old" else codes "to" };
 
     fn text() -> &'static str {
-        match I {
-            0 => "from",
-            1 => "old",
-            _ => "to",
-        }
+        nano_schema::name_of!(I, 0 => "from", 1 => "old", _ => "to")
     }
 }
 
@@ -284,11 +232,9 @@ impl Value for Change {
     ghost legal = { LegalVariant ⟦<ChangeVariants as Choices>⟧.legals };
 
     fn known(&self) {
-        known_variant::<Self, ChangeVariants>(self);
+        nano_schema::known_variant::<Self, ChangeVariants>(self);
     }
 }
-
-// ---- bytes
 
 impl BinCodec for Change {
     ghost bin = { bin_choice ⟦<Change as EnumSchema>⟧.view ⟦<ChangeVariants as BinShapes>⟧.chosen
@@ -299,7 +245,7 @@ impl BinCodec for Change {
 
 impl SerBin for Change {
     fn ser_bin(&self, alloc: Global, output: &mut Vec<u8>) -> Result<(), AllocError> {
-        write_choice_bin::<Self, ChangeVariants>(self, alloc, output)
+        nano_bin_schema::write_choice_bin::<Self, ChangeVariants>(self, alloc, output)
     }
 }
 
@@ -307,11 +253,9 @@ impl DeBin for Change {
     ghost is_decodable = { refl };
 
     fn de_bin(alloc: Global, offset: &mut usize, bytes: &[u8]) -> Result<Self, DeBinErr> {
-        read_choice_bin::<Self, ChangeVariants>(alloc, offset, bytes)
+        nano_bin_schema::read_choice_bin::<Self, ChangeVariants>(alloc, offset, bytes)
     }
 }
-
-// ---- JSON
 
 impl JsonCodec for Change {
     ghost json = { json_choice ⟦<Change as EnumSchema>⟧.view
@@ -322,17 +266,15 @@ impl JsonCodec for Change {
 
 impl SerJson for Change {
     fn ser_json(&self, alloc: Global, d: usize, s: &mut SerJsonState) -> Result<(), AllocError> {
-        write_choice_json::<Self, ChangeVariants>(self, alloc, d, s)
+        nano_json_schema::write_choice_json::<Self, ChangeVariants>(self, alloc, d, s)
     }
 }
 
 impl DeJson for Change {
     fn de_json(alloc: Global, state: &mut DeJsonState, input: &mut Chars<'_>) -> JsonResult<Self> {
-        read_choice_json::<Self, ChangeVariants>(alloc, state, input)
+        nano_json_schema::read_choice_json::<Self, ChangeVariants>(alloc, state, input)
     }
 }
-
-// ---- RON
 
 impl RonCodec for Change {
     ghost ron = { ron_choice ⟦<Change as EnumSchema>⟧.view ⟦<ChangeVariants as RonShapes>⟧.codec
@@ -343,12 +285,12 @@ impl RonCodec for Change {
 
 impl SerRon for Change {
     fn ser_ron(&self, alloc: Global, d: usize, s: &mut SerRonState) -> Result<(), AllocError> {
-        write_choice_ron::<Self, ChangeVariants>(self, alloc, d, s)
+        nano_ron_schema::write_choice_ron::<Self, ChangeVariants>(self, alloc, d, s)
     }
 }
 
 impl DeRon for Change {
     fn de_ron(alloc: Global, state: &mut DeRonState, input: &mut Chars<'_>) -> RonResult<Self> {
-        read_choice_ron::<Self, ChangeVariants>(alloc, state, input)
+        nano_ron_schema::read_choice_ron::<Self, ChangeVariants>(alloc, state, input)
     }
 }

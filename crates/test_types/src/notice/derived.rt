@@ -1,27 +1,21 @@
 //! Written by derive_files: how the types of the module above are encoded.
 
 ghost use Rattle.std.specs.Prelude.{codes, ◌==◌, if◌then◌else◌, refl};
-ghost use Rattle.nano_schema.specs.UserTypes.{whole, LegalVariant, agreed};
 ghost use Rattle.nano_schema.specs.declared.choices.Either.TheVariants.{First, Later};
+ghost use Rattle.nano_schema.specs.UserTypes.{LegalVariant, agreed};
 ghost use Rattle.nano_bin_schema.specs.Enums.{bin_choice};
 ghost use Rattle.nano_json_schema.specs.Enums.{json_choice};
 ghost use Rattle.nano_ron_schema.specs.Enums.{ron_choice};
 
 use super::*;
-use nano_bin_schema::{
-    BinCodec, BinShapes, DeBin, DeBinErr, SerBin, read_choice_bin, write_choice_bin,
-};
+use nano_bin_schema::{BinCodec, BinShapes, DeBin, DeBinErr, SerBin};
 use nano_json_schema::{
-    DeJson, DeJsonState, JsonCodec, JsonDefaultOf, JsonResult, JsonShapes, SerJson, SerJsonState,
-    read_choice_json, write_choice_json,
+    DeJson, DeJsonState, JsonCodec, JsonResult, JsonShapes, SerJson, SerJsonState,
 };
-use nano_ron_schema::{
-    DeRon, DeRonState, RonCodec, RonDefaultOf, RonResult, RonShapes, SerRon, SerRonState,
-    read_choice_ron, write_choice_ron,
-};
+use nano_ron_schema::{DeRon, DeRonState, RonCodec, RonResult, RonShapes, SerRon, SerRonState};
 use nano_schema::{
-    BorrowedChoices, Choices, DefaultOf, Defaulted, Either, EnumSchema, Label, Required, Struct,
-    Tuple, Unit, Value, Variant, VariantRefs, known_variant,
+    BorrowedChoices, Choices, DefaultU32, Defaulted, Either, EnumSchema, Label, Required, Struct,
+    Tuple, Unit, Value, Variant, VariantRefs,
 };
 use std::alloc::{AllocError, Global};
 use std::str::Chars;
@@ -29,16 +23,11 @@ use std::str::Chars;
 struct NoticeNames<const I: usize> {}
 
 impl<const I: usize> Label for NoticeNames<I> {
-    ghost label = { if I == 0 then codes "gone"
-        else if I == 1 then codes "Move"
+    ghost label = { if I == 0 then codes "gone" else if I == 1 then codes "Move"
         else codes "said" };
 
     fn text() -> &'static str {
-        match I {
-            0 => "gone",
-            1 => "Move",
-            _ => "said",
-        }
+        nano_schema::name_of!(I, 0 => "gone", 1 => "Move", _ => "said")
     }
 }
 
@@ -47,39 +36,16 @@ type NoticeMoveParts = (i32, String);
 struct NoticeSayNames<const I: usize> {}
 
 impl<const I: usize> Label for NoticeSayNames<I> {
-    ghost label = { if I == 0 then codes "text"
-        else codes "times" };
+    ghost label = { if I == 0 then codes "text" else codes "times" };
 
     fn text() -> &'static str {
-        match I {
-            0 => "text",
-            _ => "times",
-        }
+        nano_schema::name_of!(I, 0 => "text", _ => "times")
     }
-}
-
-/// The default of `times`.
-struct NoticeSayTimesDefault {}
-
-impl DefaultOf<u32> for NoticeSayTimesDefault {
-    ghost missing = { whole 1 };
-
-    fn default(_alloc: Global) -> Result<u32, AllocError> {
-        Ok(1)
-    }
-}
-
-impl JsonDefaultOf<u32> for NoticeSayTimesDefault {
-    ghost is_sound = { λ x e. tt };
-}
-
-impl RonDefaultOf<u32> for NoticeSayTimesDefault {
-    ghost is_sound = { λ x e. tt };
 }
 
 type NoticeSayParts = (
     Required<NoticeSayNames<0>, String>,
-    Defaulted<NoticeSayNames<1>, u32, NoticeSayTimesDefault>,
+    Defaulted<NoticeSayNames<1>, u32, DefaultU32<1>>,
 );
 
 type NoticeVariants3 = Variant<NoticeNames<2>, Struct<NoticeSayParts>>;
@@ -171,11 +137,9 @@ impl Value for Notice {
     ghost legal = { LegalVariant ⟦<NoticeVariants as Choices>⟧.legals };
 
     fn known(&self) {
-        known_variant::<Self, NoticeVariants>(self);
+        nano_schema::known_variant::<Self, NoticeVariants>(self);
     }
 }
-
-// ---- bytes
 
 impl BinCodec for Notice {
     ghost bin = { bin_choice ⟦<Notice as EnumSchema>⟧.view ⟦<NoticeVariants as BinShapes>⟧.chosen
@@ -186,7 +150,7 @@ impl BinCodec for Notice {
 
 impl SerBin for Notice {
     fn ser_bin(&self, alloc: Global, output: &mut Vec<u8>) -> Result<(), AllocError> {
-        write_choice_bin::<Self, NoticeVariants>(self, alloc, output)
+        nano_bin_schema::write_choice_bin::<Self, NoticeVariants>(self, alloc, output)
     }
 }
 
@@ -194,11 +158,9 @@ impl DeBin for Notice {
     ghost is_decodable = { refl };
 
     fn de_bin(alloc: Global, offset: &mut usize, bytes: &[u8]) -> Result<Self, DeBinErr> {
-        read_choice_bin::<Self, NoticeVariants>(alloc, offset, bytes)
+        nano_bin_schema::read_choice_bin::<Self, NoticeVariants>(alloc, offset, bytes)
     }
 }
-
-// ---- JSON
 
 impl JsonCodec for Notice {
     ghost json = { json_choice ⟦<Notice as EnumSchema>⟧.view
@@ -209,17 +171,15 @@ impl JsonCodec for Notice {
 
 impl SerJson for Notice {
     fn ser_json(&self, alloc: Global, d: usize, s: &mut SerJsonState) -> Result<(), AllocError> {
-        write_choice_json::<Self, NoticeVariants>(self, alloc, d, s)
+        nano_json_schema::write_choice_json::<Self, NoticeVariants>(self, alloc, d, s)
     }
 }
 
 impl DeJson for Notice {
     fn de_json(alloc: Global, state: &mut DeJsonState, input: &mut Chars<'_>) -> JsonResult<Self> {
-        read_choice_json::<Self, NoticeVariants>(alloc, state, input)
+        nano_json_schema::read_choice_json::<Self, NoticeVariants>(alloc, state, input)
     }
 }
-
-// ---- RON
 
 impl RonCodec for Notice {
     ghost ron = { ron_choice ⟦<Notice as EnumSchema>⟧.view ⟦<NoticeVariants as RonShapes>⟧.codec
@@ -230,12 +190,12 @@ impl RonCodec for Notice {
 
 impl SerRon for Notice {
     fn ser_ron(&self, alloc: Global, d: usize, s: &mut SerRonState) -> Result<(), AllocError> {
-        write_choice_ron::<Self, NoticeVariants>(self, alloc, d, s)
+        nano_ron_schema::write_choice_ron::<Self, NoticeVariants>(self, alloc, d, s)
     }
 }
 
 impl DeRon for Notice {
     fn de_ron(alloc: Global, state: &mut DeRonState, input: &mut Chars<'_>) -> RonResult<Self> {
-        read_choice_ron::<Self, NoticeVariants>(alloc, state, input)
+        nano_ron_schema::read_choice_ron::<Self, NoticeVariants>(alloc, state, input)
     }
 }

@@ -7,16 +7,10 @@ ghost use Rattle.nano_json_schema.specs.Structs.{codec_as as json_as};
 ghost use Rattle.nano_ron_schema.specs.Structs.{codec_as as ron_as};
 
 use super::*;
-use nano_bin_schema::{
-    BinCodec, BinShape, DeBin, DeBinErr, SerBin, read_record_bin, write_record_bin,
-};
-use nano_json_schema::{
-    DeJson, DeJsonState, JsonCodec, JsonResult, SerJson, SerJsonState, read_parts_json,
-};
-use nano_ron_schema::{
-    DeRon, DeRonState, RonCodec, RonResult, SerRon, SerRonState, read_parts_ron,
-};
-use nano_schema::{Borrowed, FieldRefs, Shape, StructSchema, Tuple, Value, known_record};
+use nano_bin_schema::{BinCodec, BinShape, DeBin, DeBinErr, SerBin};
+use nano_json_schema::{DeJson, DeJsonState, JsonCodec, JsonResult, SerJson, SerJsonState};
+use nano_ron_schema::{DeRon, DeRonState, RonCodec, RonResult, SerRon, SerRonState};
+use nano_schema::{Borrowed, FieldRefs, Shape, StructSchema, Tuple, Value};
 use std::alloc::{AllocError, Global};
 use std::str::Chars;
 
@@ -36,7 +30,7 @@ impl StructSchema for Point {
 }
 
 impl<'a> FieldRefs<'a> for Point {
-    type Refs = (&'a i32, &'a i32, &'a String);
+    type Refs = <PointFields as Borrowed<'a>>::Refs;
 
     ghost values = { ⟦<PointFields as Borrowed<'a>>⟧.values };
 
@@ -51,11 +45,9 @@ impl Value for Point {
     ghost legal = { ⟦<PointFields as Shape>⟧.legal };
 
     fn known(&self) {
-        known_record::<Self, PointFields>(self);
+        nano_schema::known_record::<Self, PointFields>(self);
     }
 }
-
-// ---- bytes
 
 impl BinCodec for Point {
     ghost bin = { bin_of ⟦<Point as StructSchema>⟧.view ⟦<PointFields as BinShape>⟧.codec };
@@ -65,7 +57,7 @@ impl BinCodec for Point {
 
 impl SerBin for Point {
     fn ser_bin(&self, alloc: Global, output: &mut Vec<u8>) -> Result<(), AllocError> {
-        write_record_bin::<Self, PointFields>(self, alloc, output)
+        nano_bin_schema::write_record_bin::<Self, PointFields>(self, alloc, output)
     }
 }
 
@@ -73,11 +65,9 @@ impl DeBin for Point {
     ghost is_decodable = { refl };
 
     fn de_bin(alloc: Global, offset: &mut usize, bytes: &[u8]) -> Result<Self, DeBinErr> {
-        read_record_bin::<Self, PointFields>(alloc, offset, bytes)
+        nano_bin_schema::read_record_bin::<Self, PointFields>(alloc, offset, bytes)
     }
 }
-
-// ---- JSON
 
 impl JsonCodec for Point {
     ghost json = { json_as ⟦<Point as StructSchema>⟧.view ⟦<PointValues as JsonCodec>⟧.json };
@@ -98,11 +88,9 @@ impl SerJson for Point {
 
 impl DeJson for Point {
     fn de_json(alloc: Global, state: &mut DeJsonState, input: &mut Chars<'_>) -> JsonResult<Self> {
-        read_parts_json::<Self, PointValues>(alloc, state, input)
+        nano_json_schema::read_parts_json::<Self, PointValues>(alloc, state, input)
     }
 }
-
-// ---- RON
 
 impl RonCodec for Point {
     ghost ron = { ron_as ⟦<Point as StructSchema>⟧.view ⟦<PointValues as RonCodec>⟧.ron };
@@ -123,6 +111,6 @@ impl SerRon for Point {
 
 impl DeRon for Point {
     fn de_ron(alloc: Global, state: &mut DeRonState, input: &mut Chars<'_>) -> RonResult<Self> {
-        read_parts_ron::<Self, PointValues>(alloc, state, input)
+        nano_ron_schema::read_parts_ron::<Self, PointValues>(alloc, state, input)
     }
 }

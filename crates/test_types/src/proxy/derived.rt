@@ -7,20 +7,13 @@ ghost use Rattle.nano_json_schema.specs.Structs.{strict_json_of};
 ghost use Rattle.nano_ron_schema.specs.Structs.{ron_of};
 
 use super::*;
-use nano_bin_schema::{
-    BinCodec, BinShape, DeBin, DeBinErr, SerBin, read_record_bin, write_record_bin,
-};
+use nano_bin_schema::{BinCodec, BinShape, DeBin, DeBinErr, SerBin};
 use nano_json_schema::{
     DeJson, DeJsonState, JsonCodec, JsonResult, JsonShape, Place, SerJson, SerJsonState,
-    read_record_json_strict, take_record_json_strict, write_record_json,
 };
-use nano_ron_schema::{
-    DeRon, DeRonState, RonCodec, RonResult, RonShape, SerRon, SerRonState, read_record_ron,
-    write_record_ron,
-};
+use nano_ron_schema::{DeRon, DeRonState, RonCodec, RonResult, RonShape, SerRon, SerRonState};
 use nano_schema::{
     Aliased, Borrowed, FieldRefs, Label, Optional, Required, Shape, StructSchema, Value,
-    known_record,
 };
 use std::alloc::{AllocError, Global};
 use std::str::Chars;
@@ -28,16 +21,11 @@ use std::str::Chars;
 struct ProxyNames<const I: usize> {}
 
 impl<const I: usize> Label for ProxyNames<I> {
-    ghost label = { if I == 0 then codes "host"
-        else if I == 1 then codes "hostname"
+    ghost label = { if I == 0 then codes "host" else if I == 1 then codes "hostname"
         else codes "port" };
 
     fn text() -> &'static str {
-        match I {
-            0 => "host",
-            1 => "hostname",
-            _ => "port",
-        }
+        nano_schema::name_of!(I, 0 => "host", 1 => "hostname", _ => "port")
     }
 }
 
@@ -47,7 +35,7 @@ type ProxyFields = (
 );
 
 impl StructSchema for Proxy {
-    type Values = (String, Option<u16>);
+    type Values = <ProxyFields as Shape>::Values;
 
     ghost view = { λ x. (x.host, x.port) };
 
@@ -58,7 +46,7 @@ impl StructSchema for Proxy {
 }
 
 impl<'a> FieldRefs<'a> for Proxy {
-    type Refs = (&'a String, &'a Option<u16>);
+    type Refs = <ProxyFields as Borrowed<'a>>::Refs;
 
     ghost values = { ⟦<ProxyFields as Borrowed<'a>>⟧.values };
 
@@ -73,11 +61,9 @@ impl Value for Proxy {
     ghost legal = { ⟦<ProxyFields as Shape>⟧.legal };
 
     fn known(&self) {
-        known_record::<Self, ProxyFields>(self);
+        nano_schema::known_record::<Self, ProxyFields>(self);
     }
 }
-
-// ---- bytes
 
 impl BinCodec for Proxy {
     ghost bin = { bin_of ⟦<Proxy as StructSchema>⟧.view ⟦<ProxyFields as BinShape>⟧.codec };
@@ -87,7 +73,7 @@ impl BinCodec for Proxy {
 
 impl SerBin for Proxy {
     fn ser_bin(&self, alloc: Global, output: &mut Vec<u8>) -> Result<(), AllocError> {
-        write_record_bin::<Self, ProxyFields>(self, alloc, output)
+        nano_bin_schema::write_record_bin::<Self, ProxyFields>(self, alloc, output)
     }
 }
 
@@ -95,11 +81,9 @@ impl DeBin for Proxy {
     ghost is_decodable = { refl };
 
     fn de_bin(alloc: Global, offset: &mut usize, bytes: &[u8]) -> Result<Self, DeBinErr> {
-        read_record_bin::<Self, ProxyFields>(alloc, offset, bytes)
+        nano_bin_schema::read_record_bin::<Self, ProxyFields>(alloc, offset, bytes)
     }
 }
-
-// ---- JSON
 
 impl JsonCodec for Proxy {
     ghost json = { strict_json_of ⟦<Proxy as StructSchema>⟧.view
@@ -110,13 +94,13 @@ impl JsonCodec for Proxy {
 
 impl SerJson for Proxy {
     fn ser_json(&self, alloc: Global, d: usize, s: &mut SerJsonState) -> Result<(), AllocError> {
-        write_record_json::<Self, ProxyFields>(self, alloc, d, s)
+        nano_json_schema::write_record_json::<Self, ProxyFields>(self, alloc, d, s)
     }
 }
 
 impl DeJson for Proxy {
     fn de_json(alloc: Global, state: &mut DeJsonState, input: &mut Chars<'_>) -> JsonResult<Self> {
-        read_record_json_strict::<Self, ProxyFields>(alloc, state, input)
+        nano_json_schema::read_record_json_strict::<Self, ProxyFields>(alloc, state, input)
     }
 
     fn de_json_plain(
@@ -125,11 +109,9 @@ impl DeJson for Proxy {
         input: &mut Chars<'_>,
         text: &mut String,
     ) -> Option<Self> {
-        take_record_json_strict::<Self, ProxyFields>(alloc, place, input, text)
+        nano_json_schema::take_record_json_strict::<Self, ProxyFields>(alloc, place, input, text)
     }
 }
-
-// ---- RON
 
 impl RonCodec for Proxy {
     ghost ron = { ron_of ⟦<Proxy as StructSchema>⟧.view ⟦<ProxyFields as RonShape>⟧.codec refl };
@@ -139,12 +121,12 @@ impl RonCodec for Proxy {
 
 impl SerRon for Proxy {
     fn ser_ron(&self, alloc: Global, d: usize, s: &mut SerRonState) -> Result<(), AllocError> {
-        write_record_ron::<Self, ProxyFields>(self, alloc, d, s)
+        nano_ron_schema::write_record_ron::<Self, ProxyFields>(self, alloc, d, s)
     }
 }
 
 impl DeRon for Proxy {
     fn de_ron(alloc: Global, state: &mut DeRonState, input: &mut Chars<'_>) -> RonResult<Self> {
-        read_record_ron::<Self, ProxyFields>(alloc, state, input)
+        nano_ron_schema::read_record_ron::<Self, ProxyFields>(alloc, state, input)
     }
 }

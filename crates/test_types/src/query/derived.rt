@@ -6,28 +6,19 @@ ghost use Rattle.nano_schema.specs.UserTypes.{agreed};
 ghost use Rattle.nano_json_schema.specs.Structs.{json_of};
 
 use super::*;
-use nano_bin_schema::{BinCodec, BinShape, DeBin, DeBinErr, read_record_bin};
-use nano_json_schema::{
-    DeJson, DeJsonState, JsonCodec, JsonResult, JsonShape, Place, read_record_json,
-    take_record_json,
-};
-use nano_schema::{
-    Borrowed, FieldRefs, Label, Optional, Required, Shape, StructSchema, Value, known_record,
-};
+use nano_bin_schema::{BinCodec, BinShape, DeBin, DeBinErr};
+use nano_json_schema::{DeJson, DeJsonState, JsonCodec, JsonResult, JsonShape, Place};
+use nano_schema::{Borrowed, FieldRefs, Label, Optional, Required, Shape, StructSchema, Value};
 use std::alloc::Global;
 use std::str::Chars;
 
 struct QueryNames<const I: usize> {}
 
 impl<const I: usize> Label for QueryNames<I> {
-    ghost label = { if I == 0 then codes "words"
-        else codes "limit" };
+    ghost label = { if I == 0 then codes "words" else codes "limit" };
 
     fn text() -> &'static str {
-        match I {
-            0 => "words",
-            _ => "limit",
-        }
+        nano_schema::name_of!(I, 0 => "words", _ => "limit")
     }
 }
 
@@ -37,7 +28,7 @@ type QueryFields = (
 );
 
 impl StructSchema for Query {
-    type Values = (String, Option<u32>);
+    type Values = <QueryFields as Shape>::Values;
 
     ghost view = { λ x. (x.words, x.limit) };
 
@@ -48,7 +39,7 @@ impl StructSchema for Query {
 }
 
 impl<'a> FieldRefs<'a> for Query {
-    type Refs = (&'a String, &'a Option<u32>);
+    type Refs = <QueryFields as Borrowed<'a>>::Refs;
 
     ghost values = { ⟦<QueryFields as Borrowed<'a>>⟧.values };
 
@@ -63,11 +54,9 @@ impl Value for Query {
     ghost legal = { ⟦<QueryFields as Shape>⟧.legal };
 
     fn known(&self) {
-        known_record::<Self, QueryFields>(self);
+        nano_schema::known_record::<Self, QueryFields>(self);
     }
 }
-
-// ---- bytes
 
 impl BinCodec for Query {
     ghost bin = { bin_of ⟦<Query as StructSchema>⟧.view ⟦<QueryFields as BinShape>⟧.codec };
@@ -79,11 +68,9 @@ impl DeBin for Query {
     ghost is_decodable = { refl };
 
     fn de_bin(alloc: Global, offset: &mut usize, bytes: &[u8]) -> Result<Self, DeBinErr> {
-        read_record_bin::<Self, QueryFields>(alloc, offset, bytes)
+        nano_bin_schema::read_record_bin::<Self, QueryFields>(alloc, offset, bytes)
     }
 }
-
-// ---- JSON
 
 impl JsonCodec for Query {
     ghost json = { json_of ⟦<Query as StructSchema>⟧.view ⟦<QueryFields as JsonShape>⟧.codec refl };
@@ -93,7 +80,7 @@ impl JsonCodec for Query {
 
 impl DeJson for Query {
     fn de_json(alloc: Global, state: &mut DeJsonState, input: &mut Chars<'_>) -> JsonResult<Self> {
-        read_record_json::<Self, QueryFields>(alloc, state, input)
+        nano_json_schema::read_record_json::<Self, QueryFields>(alloc, state, input)
     }
 
     fn de_json_plain(
@@ -102,6 +89,6 @@ impl DeJson for Query {
         input: &mut Chars<'_>,
         text: &mut String,
     ) -> Option<Self> {
-        take_record_json::<Self, QueryFields>(alloc, place, input, text)
+        nano_json_schema::take_record_json::<Self, QueryFields>(alloc, place, input, text)
     }
 }

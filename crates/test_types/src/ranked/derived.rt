@@ -13,21 +13,16 @@ ghost use Rattle.nano_json_schema.specs.Enums.{json_choice};
 ghost use Rattle.nano_ron_schema.specs.Enums.{ron_choice};
 
 use super::*;
-use nano_bin_schema::{
-    BinCodec, BinShape, BinShapes, DeBin, DeBinErr, SerBin, read_choice_bin, read_record_bin,
-    write_choice_bin, write_record_bin,
-};
+use nano_bin_schema::{BinCodec, BinShape, BinShapes, DeBin, DeBinErr, SerBin};
 use nano_json_schema::{
     DeJson, DeJsonState, JsonCodec, JsonResult, JsonShape, JsonShapes, SerJson, SerJsonState,
-    read_choice_json, read_record_json, write_choice_json, write_record_json,
 };
 use nano_ron_schema::{
     DeRon, DeRonState, RonCodec, RonResult, RonShape, RonShapes, SerRon, SerRonState,
-    read_choice_ron, read_record_ron, write_choice_ron, write_record_ron,
 };
 use nano_schema::{
     Borrowed, BorrowedChoices, Choices, Either, EnumSchema, FieldRefs, Label, Newtype, Required,
-    Shape, Struct, StructSchema, Tuple, Value, Variant, VariantRefs, known_record, known_variant,
+    Shape, Struct, StructSchema, Tuple, Value, Variant, VariantRefs,
 };
 use std::alloc::{AllocError, Global};
 use std::str::Chars;
@@ -35,16 +30,11 @@ use std::str::Chars;
 struct RankedNames<const I: usize> {}
 
 impl<const I: usize> Label for RankedNames<I> {
-    ghost label = { if I == 0 then codes "things"
-        else if I == 1 then codes "others"
+    ghost label = { if I == 0 then codes "things" else if I == 1 then codes "others"
         else codes "place" };
 
     fn text() -> &'static str {
-        match I {
-            0 => "things",
-            1 => "others",
-            _ => "place",
-        }
+        nano_schema::name_of!(I, 0 => "things", 1 => "others", _ => "place")
     }
 }
 
@@ -61,10 +51,7 @@ where
     T: Clone,
     U: Ord,
 {
-    type Values = (
-        Vec<Option<Box<T>>>,
-        (LinkedList<(U, Box<T>)>, super::super::point::Point),
-    );
+    type Values = <RankedFields<T, U> as Shape>::Values;
 
     ghost view = { λ x. (x.things, (x.others, x.place)) };
 
@@ -83,10 +70,7 @@ where
     T: Clone,
     U: Ord,
 {
-    type Refs = (
-        &'a Vec<Option<Box<T>>>,
-        (&'a LinkedList<(U, Box<T>)>, &'a super::super::point::Point),
-    );
+    type Refs = <RankedFields<T, U> as Borrowed<'a>>::Refs;
 
     ghost values = { ⟦<RankedFields<T, U> as Borrowed<'a>>⟧.values };
 
@@ -106,11 +90,9 @@ where
     ghost legal = { ⟦<RankedFields<T, U> as Shape>⟧.legal };
 
     fn known(&self) {
-        known_record::<Self, RankedFields<T, U>>(self);
+        nano_schema::known_record::<Self, RankedFields<T, U>>(self);
     }
 }
-
-// ---- bytes
 
 impl<T: BinCodec, U: BinCodec> BinCodec for Ranked<T, U>
 where
@@ -133,7 +115,7 @@ where
     U: Ord,
 {
     fn ser_bin(&self, alloc: Global, output: &mut Vec<u8>) -> Result<(), AllocError> {
-        write_record_bin::<Self, RankedFields<T, U>>(self, alloc, output)
+        nano_bin_schema::write_record_bin::<Self, RankedFields<T, U>>(self, alloc, output)
     }
 }
 
@@ -153,7 +135,7 @@ where
         U.is_decodable T.is_decodable) refl)) };
 
     fn de_bin(alloc: Global, offset: &mut usize, bytes: &[u8]) -> Result<Self, DeBinErr> {
-        match read_record_bin::<Self, RankedFields<T, U>>(alloc, offset, bytes) {
+        match nano_bin_schema::read_record_bin::<Self, RankedFields<T, U>>(alloc, offset, bytes) {
             Ok(value) => {
                 means_as_bin::<Self>(&value);
                 Ok(value)
@@ -162,8 +144,6 @@ where
         }
     }
 }
-
-// ---- JSON
 
 impl<T: JsonCodec, U: JsonCodec> JsonCodec for Ranked<T, U>
 where
@@ -186,7 +166,7 @@ where
     U: Ord,
 {
     fn ser_json(&self, alloc: Global, d: usize, s: &mut SerJsonState) -> Result<(), AllocError> {
-        write_record_json::<Self, RankedFields<T, U>>(self, alloc, d, s)
+        nano_json_schema::write_record_json::<Self, RankedFields<T, U>>(self, alloc, d, s)
     }
 }
 
@@ -203,7 +183,7 @@ where
     U: Ord,
 {
     fn de_json(alloc: Global, state: &mut DeJsonState, input: &mut Chars<'_>) -> JsonResult<Self> {
-        match read_record_json::<Self, RankedFields<T, U>>(alloc, state, input) {
+        match nano_json_schema::read_record_json::<Self, RankedFields<T, U>>(alloc, state, input) {
             Ok(value) => {
                 means_as_json::<Self>(&value);
                 Ok(value)
@@ -212,8 +192,6 @@ where
         }
     }
 }
-
-// ---- RON
 
 impl<T: RonCodec, U: RonCodec> RonCodec for Ranked<T, U>
 where
@@ -236,7 +214,7 @@ where
     U: Ord,
 {
     fn ser_ron(&self, alloc: Global, d: usize, s: &mut SerRonState) -> Result<(), AllocError> {
-        write_record_ron::<Self, RankedFields<T, U>>(self, alloc, d, s)
+        nano_ron_schema::write_record_ron::<Self, RankedFields<T, U>>(self, alloc, d, s)
     }
 }
 
@@ -253,7 +231,7 @@ where
     U: Ord,
 {
     fn de_ron(alloc: Global, state: &mut DeRonState, input: &mut Chars<'_>) -> RonResult<Self> {
-        match read_record_ron::<Self, RankedFields<T, U>>(alloc, state, input) {
+        match nano_ron_schema::read_record_ron::<Self, RankedFields<T, U>>(alloc, state, input) {
             Ok(value) => {
                 means_as_ron::<Self>(&value);
                 Ok(value)
@@ -266,16 +244,11 @@ where
 struct WantedNames<const I: usize> {}
 
 impl<const I: usize> Label for WantedNames<I> {
-    ghost label = { if I == 0 then codes "One"
-        else if I == 1 then codes "Between"
+    ghost label = { if I == 0 then codes "One" else if I == 1 then codes "Between"
         else codes "Group" };
 
     fn text() -> &'static str {
-        match I {
-            0 => "One",
-            1 => "Between",
-            _ => "Group",
-        }
+        nano_schema::name_of!(I, 0 => "One", 1 => "Between", _ => "Group")
     }
 }
 
@@ -286,14 +259,10 @@ type WantedBetweenParts<T> = (crate::point::Point, Vec<(T, u8, T)>);
 struct WantedGroupNames<const I: usize> {}
 
 impl<const I: usize> Label for WantedGroupNames<I> {
-    ghost label = { if I == 0 then codes "things"
-        else codes "count" };
+    ghost label = { if I == 0 then codes "things" else codes "count" };
 
     fn text() -> &'static str {
-        match I {
-            0 => "things",
-            _ => "count",
-        }
+        nano_schema::name_of!(I, 0 => "things", _ => "count")
     }
 }
 
@@ -399,11 +368,9 @@ where
     ghost legal = { LegalVariant ⟦<WantedVariants<T> as Choices>⟧.legals };
 
     fn known(&self) {
-        known_variant::<Self, WantedVariants<T>>(self);
+        nano_schema::known_variant::<Self, WantedVariants<T>>(self);
     }
 }
-
-// ---- bytes
 
 impl<T: BinCodec> BinCodec for Wanted<T>
 where
@@ -428,7 +395,7 @@ where
     T: Clone,
 {
     fn ser_bin(&self, alloc: Global, output: &mut Vec<u8>) -> Result<(), AllocError> {
-        write_choice_bin::<Self, WantedVariants<T>>(self, alloc, output)
+        nano_bin_schema::write_choice_bin::<Self, WantedVariants<T>>(self, alloc, output)
     }
 }
 
@@ -441,7 +408,7 @@ where
         (both_are_read T.is_decodable refl) refl))) };
 
     fn de_bin(alloc: Global, offset: &mut usize, bytes: &[u8]) -> Result<Self, DeBinErr> {
-        match read_choice_bin::<Self, WantedVariants<T>>(alloc, offset, bytes) {
+        match nano_bin_schema::read_choice_bin::<Self, WantedVariants<T>>(alloc, offset, bytes) {
             Ok(value) => {
                 means_as_bin::<Self>(&value);
                 Ok(value)
@@ -450,8 +417,6 @@ where
         }
     }
 }
-
-// ---- JSON
 
 impl<T: JsonCodec> JsonCodec for Wanted<T>
 where
@@ -476,7 +441,7 @@ where
     T: Clone,
 {
     fn ser_json(&self, alloc: Global, d: usize, s: &mut SerJsonState) -> Result<(), AllocError> {
-        write_choice_json::<Self, WantedVariants<T>>(self, alloc, d, s)
+        nano_json_schema::write_choice_json::<Self, WantedVariants<T>>(self, alloc, d, s)
     }
 }
 
@@ -485,7 +450,7 @@ where
     T: Clone,
 {
     fn de_json(alloc: Global, state: &mut DeJsonState, input: &mut Chars<'_>) -> JsonResult<Self> {
-        match read_choice_json::<Self, WantedVariants<T>>(alloc, state, input) {
+        match nano_json_schema::read_choice_json::<Self, WantedVariants<T>>(alloc, state, input) {
             Ok(value) => {
                 means_as_json::<Self>(&value);
                 Ok(value)
@@ -494,8 +459,6 @@ where
         }
     }
 }
-
-// ---- RON
 
 impl<T: RonCodec> RonCodec for Wanted<T>
 where
@@ -520,7 +483,7 @@ where
     T: Clone,
 {
     fn ser_ron(&self, alloc: Global, d: usize, s: &mut SerRonState) -> Result<(), AllocError> {
-        write_choice_ron::<Self, WantedVariants<T>>(self, alloc, d, s)
+        nano_ron_schema::write_choice_ron::<Self, WantedVariants<T>>(self, alloc, d, s)
     }
 }
 
@@ -529,7 +492,7 @@ where
     T: Clone,
 {
     fn de_ron(alloc: Global, state: &mut DeRonState, input: &mut Chars<'_>) -> RonResult<Self> {
-        match read_choice_ron::<Self, WantedVariants<T>>(alloc, state, input) {
+        match nano_ron_schema::read_choice_ron::<Self, WantedVariants<T>>(alloc, state, input) {
             Ok(value) => {
                 means_as_ron::<Self>(&value);
                 Ok(value)

@@ -8,16 +8,10 @@ ghost use Rattle.nano_json_schema.specs.Structs.{codec_as as json_as};
 ghost use Rattle.nano_ron_schema.specs.Structs.{codec_as as ron_as};
 
 use super::*;
-use nano_bin_schema::{
-    BinCodec, BinShape, DeBin, DeBinErr, SerBin, read_record_bin, write_record_bin,
-};
-use nano_json_schema::{
-    DeJson, DeJsonState, JsonCodec, JsonResult, SerJson, SerJsonState, read_parts_json,
-};
-use nano_ron_schema::{
-    DeRon, DeRonState, RonCodec, RonResult, SerRon, SerRonState, read_parts_ron,
-};
-use nano_schema::{Borrowed, FieldRefs, Shape, StructSchema, Tuple, Value, known_record};
+use nano_bin_schema::{BinCodec, BinShape, DeBin, DeBinErr, SerBin};
+use nano_json_schema::{DeJson, DeJsonState, JsonCodec, JsonResult, SerJson, SerJsonState};
+use nano_ron_schema::{DeRon, DeRonState, RonCodec, RonResult, SerRon, SerRonState};
+use nano_schema::{Borrowed, FieldRefs, Shape, StructSchema, Tuple, Value};
 use std::alloc::{AllocError, Global};
 use std::str::Chars;
 
@@ -35,8 +29,6 @@ where
         Value::known(&self.0);
     }
 }
-
-// ---- bytes
 
 impl<T: BinCodec> BinCodec for Best<T>
 where
@@ -72,8 +64,6 @@ where
     }
 }
 
-// ---- JSON
-
 impl<T: JsonCodec> JsonCodec for Best<T>
 where
     T: Clone,
@@ -105,8 +95,6 @@ where
         }
     }
 }
-
-// ---- RON
 
 impl<T: RonCodec> RonCodec for Best<T>
 where
@@ -162,7 +150,7 @@ impl<'a, T: Value + 'a, U: Value + 'a> FieldRefs<'a> for Ranks<T, U>
 where
     U: Ord,
 {
-    type Refs = (&'a Vec<(T, u8)>, &'a Option<(U, Vec<Vec<T>>)>);
+    type Refs = <RanksFields<T, U> as Borrowed<'a>>::Refs;
 
     ghost values = { ⟦<RanksFields<T, U> as Borrowed<'a>>⟧.values };
 
@@ -181,11 +169,9 @@ where
     ghost legal = { ⟦<RanksFields<T, U> as Shape>⟧.legal };
 
     fn known(&self) {
-        known_record::<Self, RanksFields<T, U>>(self);
+        nano_schema::known_record::<Self, RanksFields<T, U>>(self);
     }
 }
-
-// ---- bytes
 
 impl<T: BinCodec, U: BinCodec> BinCodec for Ranks<T, U>
 where
@@ -206,7 +192,7 @@ where
     U: Ord,
 {
     fn ser_bin(&self, alloc: Global, output: &mut Vec<u8>) -> Result<(), AllocError> {
-        write_record_bin::<Self, RanksFields<T, U>>(self, alloc, output)
+        nano_bin_schema::write_record_bin::<Self, RanksFields<T, U>>(self, alloc, output)
     }
 }
 
@@ -225,7 +211,7 @@ where
         U.is_decodable T.is_decodable)) };
 
     fn de_bin(alloc: Global, offset: &mut usize, bytes: &[u8]) -> Result<Self, DeBinErr> {
-        match read_record_bin::<Self, RanksFields<T, U>>(alloc, offset, bytes) {
+        match nano_bin_schema::read_record_bin::<Self, RanksFields<T, U>>(alloc, offset, bytes) {
             Ok(value) => {
                 means_as_bin::<Self>(&value);
                 Ok(value)
@@ -234,8 +220,6 @@ where
         }
     }
 }
-
-// ---- JSON
 
 impl<T: JsonCodec, U: JsonCodec> JsonCodec for Ranks<T, U>
 where
@@ -269,11 +253,9 @@ where
     U: Ord,
 {
     fn de_json(alloc: Global, state: &mut DeJsonState, input: &mut Chars<'_>) -> JsonResult<Self> {
-        read_parts_json::<Self, RanksValues<T, U>>(alloc, state, input)
+        nano_json_schema::read_parts_json::<Self, RanksValues<T, U>>(alloc, state, input)
     }
 }
-
-// ---- RON
 
 impl<T: RonCodec, U: RonCodec> RonCodec for Ranks<T, U>
 where
@@ -307,6 +289,6 @@ where
     U: Ord,
 {
     fn de_ron(alloc: Global, state: &mut DeRonState, input: &mut Chars<'_>) -> RonResult<Self> {
-        read_parts_ron::<Self, RanksValues<T, U>>(alloc, state, input)
+        nano_ron_schema::read_parts_ron::<Self, RanksValues<T, U>>(alloc, state, input)
     }
 }

@@ -11,20 +11,14 @@ ghost use Rattle.nano_json_schema.specs.Enums.{json_choice};
 ghost use Rattle.nano_ron_schema.specs.Enums.{ron_choice};
 
 use super::*;
-use nano_bin_schema::{
-    BinCodec, BinShapes, DeBin, DeBinErr, SerBin, read_choice_bin, write_choice_bin,
-};
+use nano_bin_schema::{BinCodec, BinShapes, DeBin, DeBinErr, SerBin};
 use nano_json_schema::{
     DeJson, DeJsonState, JsonCodec, JsonResult, JsonShapes, SerJson, SerJsonState,
-    read_choice_json, write_choice_json,
 };
-use nano_ron_schema::{
-    DeRon, DeRonState, RonCodec, RonResult, RonShapes, SerRon, SerRonState, read_choice_ron,
-    write_choice_ron,
-};
+use nano_ron_schema::{DeRon, DeRonState, RonCodec, RonResult, RonShapes, SerRon, SerRonState};
 use nano_schema::{
     BorrowedChoices, Choices, Either, EnumSchema, Label, Newtype, Optional, Required, Struct,
-    Tuple, Value, Variant, VariantRefs, known_variant,
+    Tuple, Value, Variant, VariantRefs,
 };
 use std::alloc::{AllocError, Global};
 use std::str::Chars;
@@ -32,16 +26,11 @@ use std::str::Chars;
 struct ReplyNames<const I: usize> {}
 
 impl<const I: usize> Label for ReplyNames<I> {
-    ghost label = { if I == 0 then codes "Found"
-        else if I == 1 then codes "Failed"
+    ghost label = { if I == 0 then codes "Found" else if I == 1 then codes "Failed"
         else codes "Listed" };
 
     fn text() -> &'static str {
-        match I {
-            0 => "Found",
-            1 => "Failed",
-            _ => "Listed",
-        }
+        nano_schema::name_of!(I, 0 => "Found", 1 => "Failed", _ => "Listed")
     }
 }
 
@@ -52,14 +41,10 @@ type ReplyFailedParts<B> = (B, u32);
 struct ReplyListedNames<const I: usize> {}
 
 impl<const I: usize> Label for ReplyListedNames<I> {
-    ghost label = { if I == 0 then codes "items"
-        else codes "next" };
+    ghost label = { if I == 0 then codes "items" else codes "next" };
 
     fn text() -> &'static str {
-        match I {
-            0 => "items",
-            _ => "next",
-        }
+        nano_schema::name_of!(I, 0 => "items", _ => "next")
     }
 }
 
@@ -153,11 +138,9 @@ impl<A: Value, B: Value> Value for Reply<A, B> {
     ghost legal = { LegalVariant ⟦<ReplyVariants<A, B> as Choices>⟧.legals };
 
     fn known(&self) {
-        known_variant::<Self, ReplyVariants<A, B>>(self);
+        nano_schema::known_variant::<Self, ReplyVariants<A, B>>(self);
     }
 }
-
-// ---- bytes
 
 impl<A: BinCodec, B: BinCodec> BinCodec for Reply<A, B> {
     ghost bin = { bin_choice ⟦<Reply<A, B> as EnumSchema>⟧.view
@@ -171,7 +154,7 @@ impl<A: BinCodec, B: BinCodec> BinCodec for Reply<A, B> {
 
 impl<A: SerBin, B: SerBin> SerBin for Reply<A, B> {
     fn ser_bin(&self, alloc: Global, output: &mut Vec<u8>) -> Result<(), AllocError> {
-        write_choice_bin::<Self, ReplyVariants<A, B>>(self, alloc, output)
+        nano_bin_schema::write_choice_bin::<Self, ReplyVariants<A, B>>(self, alloc, output)
     }
 }
 
@@ -180,11 +163,9 @@ impl<A: DeBin, B: DeBin> DeBin for Reply<A, B> {
         B.is_decodable refl) (both_are_read (both_are_read A.is_decodable B.is_decodable) refl))) };
 
     fn de_bin(alloc: Global, offset: &mut usize, bytes: &[u8]) -> Result<Self, DeBinErr> {
-        read_choice_bin::<Self, ReplyVariants<A, B>>(alloc, offset, bytes)
+        nano_bin_schema::read_choice_bin::<Self, ReplyVariants<A, B>>(alloc, offset, bytes)
     }
 }
-
-// ---- JSON
 
 impl<A: JsonCodec, B: JsonCodec> JsonCodec for Reply<A, B> {
     ghost json = { json_choice ⟦<Reply<A, B> as EnumSchema>⟧.view
@@ -198,17 +179,15 @@ impl<A: JsonCodec, B: JsonCodec> JsonCodec for Reply<A, B> {
 
 impl<A: SerJson, B: SerJson> SerJson for Reply<A, B> {
     fn ser_json(&self, alloc: Global, d: usize, s: &mut SerJsonState) -> Result<(), AllocError> {
-        write_choice_json::<Self, ReplyVariants<A, B>>(self, alloc, d, s)
+        nano_json_schema::write_choice_json::<Self, ReplyVariants<A, B>>(self, alloc, d, s)
     }
 }
 
 impl<A: DeJson, B: DeJson> DeJson for Reply<A, B> {
     fn de_json(alloc: Global, state: &mut DeJsonState, input: &mut Chars<'_>) -> JsonResult<Self> {
-        read_choice_json::<Self, ReplyVariants<A, B>>(alloc, state, input)
+        nano_json_schema::read_choice_json::<Self, ReplyVariants<A, B>>(alloc, state, input)
     }
 }
-
-// ---- RON
 
 impl<A: RonCodec, B: RonCodec> RonCodec for Reply<A, B> {
     ghost ron = { ron_choice ⟦<Reply<A, B> as EnumSchema>⟧.view
@@ -222,12 +201,12 @@ impl<A: RonCodec, B: RonCodec> RonCodec for Reply<A, B> {
 
 impl<A: SerRon, B: SerRon> SerRon for Reply<A, B> {
     fn ser_ron(&self, alloc: Global, d: usize, s: &mut SerRonState) -> Result<(), AllocError> {
-        write_choice_ron::<Self, ReplyVariants<A, B>>(self, alloc, d, s)
+        nano_ron_schema::write_choice_ron::<Self, ReplyVariants<A, B>>(self, alloc, d, s)
     }
 }
 
 impl<A: DeRon, B: DeRon> DeRon for Reply<A, B> {
     fn de_ron(alloc: Global, state: &mut DeRonState, input: &mut Chars<'_>) -> RonResult<Self> {
-        read_choice_ron::<Self, ReplyVariants<A, B>>(alloc, state, input)
+        nano_ron_schema::read_choice_ron::<Self, ReplyVariants<A, B>>(alloc, state, input)
     }
 }

@@ -7,40 +7,24 @@ ghost use Rattle.nano_json_schema.specs.Structs.{json_of};
 ghost use Rattle.nano_ron_schema.specs.Structs.{ron_of};
 
 use super::*;
-use nano_bin_schema::{
-    BinCodec, BinShape, DeBin, DeBinErr, SerBin, read_record_bin, write_record_bin,
-};
+use nano_bin_schema::{BinCodec, BinShape, DeBin, DeBinErr, SerBin};
 use nano_json_schema::{
     DeJson, DeJsonState, JsonCodec, JsonResult, JsonShape, Place, SerJson, SerJsonState,
-    read_record_json, take_record_json, write_record_json,
 };
-use nano_ron_schema::{
-    DeRon, DeRonState, RonCodec, RonResult, RonShape, SerRon, SerRonState, read_record_ron,
-    write_record_ron,
-};
-use nano_schema::{
-    Borrowed, FieldRefs, Label, Optional, Required, Shape, StructSchema, Value, known_record,
-};
+use nano_ron_schema::{DeRon, DeRonState, RonCodec, RonResult, RonShape, SerRon, SerRonState};
+use nano_schema::{Borrowed, FieldRefs, Label, Optional, Required, Shape, StructSchema, Value};
 use std::alloc::{AllocError, Global};
 use std::str::Chars;
 
 struct ServerNames<const I: usize> {}
 
 impl<const I: usize> Label for ServerNames<I> {
-    ghost label = { if I == 0 then codes "host"
-        else if I == 1 then codes "port"
-        else if I == 2 then codes "tags"
-        else if I == 3 then codes "limits"
-        else codes "note" };
+    ghost label = { if I == 0 then codes "host" else if I == 1 then codes "port"
+        else if I == 2 then codes "tags" else if I == 3 then codes "limits" else codes "note" };
 
     fn text() -> &'static str {
-        match I {
-            0 => "host",
-            1 => "port",
-            2 => "tags",
-            3 => "limits",
-            _ => "note",
-        }
+        nano_schema::name_of!(I, 0 => "host", 1 => "port", 2 => "tags", 3 => "limits",
+            _ => "note")
     }
 }
 
@@ -59,7 +43,7 @@ type ServerFields = (
 );
 
 impl StructSchema for Server {
-    type Values = ((String, u16), (Tags, (Limits, Option<String>)));
+    type Values = <ServerFields as Shape>::Values;
 
     ghost view = { λ x. ((x.host, x.port), (x.tags, (x.limits, x.note))) };
 
@@ -76,10 +60,7 @@ impl StructSchema for Server {
 }
 
 impl<'a> FieldRefs<'a> for Server {
-    type Refs = (
-        (&'a String, &'a u16),
-        (&'a Tags, (&'a Limits, &'a Option<String>)),
-    );
+    type Refs = <ServerFields as Borrowed<'a>>::Refs;
 
     ghost values = { ⟦<ServerFields as Borrowed<'a>>⟧.values };
 
@@ -97,11 +78,9 @@ impl Value for Server {
     ghost legal = { ⟦<ServerFields as Shape>⟧.legal };
 
     fn known(&self) {
-        known_record::<Self, ServerFields>(self);
+        nano_schema::known_record::<Self, ServerFields>(self);
     }
 }
-
-// ---- bytes
 
 impl BinCodec for Server {
     ghost bin = { bin_of ⟦<Server as StructSchema>⟧.view ⟦<ServerFields as BinShape>⟧.codec };
@@ -111,7 +90,7 @@ impl BinCodec for Server {
 
 impl SerBin for Server {
     fn ser_bin(&self, alloc: Global, output: &mut Vec<u8>) -> Result<(), AllocError> {
-        write_record_bin::<Self, ServerFields>(self, alloc, output)
+        nano_bin_schema::write_record_bin::<Self, ServerFields>(self, alloc, output)
     }
 }
 
@@ -119,11 +98,9 @@ impl DeBin for Server {
     ghost is_decodable = { refl };
 
     fn de_bin(alloc: Global, offset: &mut usize, bytes: &[u8]) -> Result<Self, DeBinErr> {
-        read_record_bin::<Self, ServerFields>(alloc, offset, bytes)
+        nano_bin_schema::read_record_bin::<Self, ServerFields>(alloc, offset, bytes)
     }
 }
-
-// ---- JSON
 
 impl JsonCodec for Server {
     ghost json = { json_of ⟦<Server as StructSchema>⟧.view ⟦<ServerFields as JsonShape>⟧.codec
@@ -134,13 +111,13 @@ impl JsonCodec for Server {
 
 impl SerJson for Server {
     fn ser_json(&self, alloc: Global, d: usize, s: &mut SerJsonState) -> Result<(), AllocError> {
-        write_record_json::<Self, ServerFields>(self, alloc, d, s)
+        nano_json_schema::write_record_json::<Self, ServerFields>(self, alloc, d, s)
     }
 }
 
 impl DeJson for Server {
     fn de_json(alloc: Global, state: &mut DeJsonState, input: &mut Chars<'_>) -> JsonResult<Self> {
-        read_record_json::<Self, ServerFields>(alloc, state, input)
+        nano_json_schema::read_record_json::<Self, ServerFields>(alloc, state, input)
     }
 
     fn de_json_plain(
@@ -149,11 +126,9 @@ impl DeJson for Server {
         input: &mut Chars<'_>,
         text: &mut String,
     ) -> Option<Self> {
-        take_record_json::<Self, ServerFields>(alloc, place, input, text)
+        nano_json_schema::take_record_json::<Self, ServerFields>(alloc, place, input, text)
     }
 }
-
-// ---- RON
 
 impl RonCodec for Server {
     ghost ron = { ron_of ⟦<Server as StructSchema>⟧.view ⟦<ServerFields as RonShape>⟧.codec refl };
@@ -163,12 +138,12 @@ impl RonCodec for Server {
 
 impl SerRon for Server {
     fn ser_ron(&self, alloc: Global, d: usize, s: &mut SerRonState) -> Result<(), AllocError> {
-        write_record_ron::<Self, ServerFields>(self, alloc, d, s)
+        nano_ron_schema::write_record_ron::<Self, ServerFields>(self, alloc, d, s)
     }
 }
 
 impl DeRon for Server {
     fn de_ron(alloc: Global, state: &mut DeRonState, input: &mut Chars<'_>) -> RonResult<Self> {
-        read_record_ron::<Self, ServerFields>(alloc, state, input)
+        nano_ron_schema::read_record_ron::<Self, ServerFields>(alloc, state, input)
     }
 }

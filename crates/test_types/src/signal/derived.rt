@@ -8,20 +8,14 @@ ghost use Rattle.nano_json_schema.specs.Enums.{json_choice};
 ghost use Rattle.nano_ron_schema.specs.Enums.{ron_choice};
 
 use super::*;
-use nano_bin_schema::{
-    BinCodec, BinShapes, DeBin, DeBinErr, SerBin, read_choice_bin, write_choice_bin,
-};
+use nano_bin_schema::{BinCodec, BinShapes, DeBin, DeBinErr, SerBin};
 use nano_json_schema::{
     DeJson, DeJsonState, JsonCodec, JsonResult, JsonShapes, SerJson, SerJsonState,
-    read_choice_json, write_choice_json,
 };
-use nano_ron_schema::{
-    DeRon, DeRonState, RonCodec, RonResult, RonShapes, SerRon, SerRonState, read_choice_ron,
-    write_choice_ron,
-};
+use nano_ron_schema::{DeRon, DeRonState, RonCodec, RonResult, RonShapes, SerRon, SerRonState};
 use nano_schema::{
     BorrowedChoices, Choices, Either, EnumSchema, Label, Newtype, Tuple, Value, Variant,
-    VariantRefs, known_variant,
+    VariantRefs,
 };
 use std::alloc::{AllocError, Global};
 use std::str::Chars;
@@ -29,16 +23,11 @@ use std::str::Chars;
 struct SignalNames<const I: usize> {}
 
 impl<const I: usize> Label for SignalNames<I> {
-    ghost label = { if I == 0 then codes "Wait"
-        else if I == 1 then codes "Move"
+    ghost label = { if I == 0 then codes "Wait" else if I == 1 then codes "Move"
         else codes "Light" };
 
     fn text() -> &'static str {
-        match I {
-            0 => "Wait",
-            1 => "Move",
-            _ => "Light",
-        }
+        nano_schema::name_of!(I, 0 => "Wait", 1 => "Move", _ => "Light")
     }
 }
 
@@ -132,11 +121,9 @@ impl Value for Signal {
     ghost legal = { LegalVariant ⟦<SignalVariants as Choices>⟧.legals };
 
     fn known(&self) {
-        known_variant::<Self, SignalVariants>(self);
+        nano_schema::known_variant::<Self, SignalVariants>(self);
     }
 }
-
-// ---- bytes
 
 impl BinCodec for Signal {
     ghost bin = { bin_choice ⟦<Signal as EnumSchema>⟧.view ⟦<SignalVariants as BinShapes>⟧.chosen
@@ -147,7 +134,7 @@ impl BinCodec for Signal {
 
 impl SerBin for Signal {
     fn ser_bin(&self, alloc: Global, output: &mut Vec<u8>) -> Result<(), AllocError> {
-        write_choice_bin::<Self, SignalVariants>(self, alloc, output)
+        nano_bin_schema::write_choice_bin::<Self, SignalVariants>(self, alloc, output)
     }
 }
 
@@ -155,11 +142,9 @@ impl DeBin for Signal {
     ghost is_decodable = { refl };
 
     fn de_bin(alloc: Global, offset: &mut usize, bytes: &[u8]) -> Result<Self, DeBinErr> {
-        read_choice_bin::<Self, SignalVariants>(alloc, offset, bytes)
+        nano_bin_schema::read_choice_bin::<Self, SignalVariants>(alloc, offset, bytes)
     }
 }
-
-// ---- JSON
 
 impl JsonCodec for Signal {
     ghost json = { json_choice ⟦<Signal as EnumSchema>⟧.view
@@ -170,17 +155,15 @@ impl JsonCodec for Signal {
 
 impl SerJson for Signal {
     fn ser_json(&self, alloc: Global, d: usize, s: &mut SerJsonState) -> Result<(), AllocError> {
-        write_choice_json::<Self, SignalVariants>(self, alloc, d, s)
+        nano_json_schema::write_choice_json::<Self, SignalVariants>(self, alloc, d, s)
     }
 }
 
 impl DeJson for Signal {
     fn de_json(alloc: Global, state: &mut DeJsonState, input: &mut Chars<'_>) -> JsonResult<Self> {
-        read_choice_json::<Self, SignalVariants>(alloc, state, input)
+        nano_json_schema::read_choice_json::<Self, SignalVariants>(alloc, state, input)
     }
 }
-
-// ---- RON
 
 impl RonCodec for Signal {
     ghost ron = { ron_choice ⟦<Signal as EnumSchema>⟧.view ⟦<SignalVariants as RonShapes>⟧.codec
@@ -191,12 +174,12 @@ impl RonCodec for Signal {
 
 impl SerRon for Signal {
     fn ser_ron(&self, alloc: Global, d: usize, s: &mut SerRonState) -> Result<(), AllocError> {
-        write_choice_ron::<Self, SignalVariants>(self, alloc, d, s)
+        nano_ron_schema::write_choice_ron::<Self, SignalVariants>(self, alloc, d, s)
     }
 }
 
 impl DeRon for Signal {
     fn de_ron(alloc: Global, state: &mut DeRonState, input: &mut Chars<'_>) -> RonResult<Self> {
-        read_choice_ron::<Self, SignalVariants>(alloc, state, input)
+        nano_ron_schema::read_choice_ron::<Self, SignalVariants>(alloc, state, input)
     }
 }

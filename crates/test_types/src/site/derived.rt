@@ -1,26 +1,20 @@
 //! Written by derive_files: how the types of the module above are encoded.
 
 ghost use Rattle.std.specs.Prelude.{codes, ◌==◌, if◌then◌else◌, refl};
-ghost use Rattle.nano_schema.specs.UserTypes.{whole, text, agreed};
+ghost use Rattle.nano_schema.specs.UserTypes.{text, agreed};
 ghost use Rattle.nano_bin_schema.specs.Structs.{bin_of};
 ghost use Rattle.nano_json_schema.specs.Structs.{json_of};
 ghost use Rattle.nano_ron_schema.specs.Structs.{ron_of};
 
 use super::*;
-use nano_bin_schema::{
-    BinCodec, BinShape, DeBin, DeBinErr, SerBin, read_record_bin, write_record_bin,
-};
+use nano_bin_schema::{BinCodec, BinShape, DeBin, DeBinErr, SerBin};
 use nano_json_schema::{
-    DeJson, DeJsonState, JsonCodec, JsonDefaultOf, JsonResult, JsonShape, Place, SerJson,
-    SerJsonState, read_record_json, take_record_json, write_record_json,
+    DeJson, DeJsonState, JsonCodec, JsonResult, JsonShape, Place, SerJson, SerJsonState,
 };
-use nano_ron_schema::{
-    DeRon, DeRonState, RonCodec, RonDefaultOf, RonResult, RonShape, SerRon, SerRonState,
-    read_record_ron, write_record_ron,
-};
+use nano_ron_schema::{DeRon, DeRonState, RonCodec, RonResult, RonShape, SerRon, SerRonState};
 use nano_schema::{
-    Borrowed, DefaultOf, Defaulted, FieldRefs, Label, Required, Shape, StructSchema, TypeDefault,
-    Value, known_record,
+    Borrowed, DefaultOf, DefaultU16, Defaulted, FieldRefs, Label, Required, Shape, StructSchema,
+    TypeDefault, Value,
 };
 use std::alloc::{AllocError, Global};
 use std::str::Chars;
@@ -28,40 +22,13 @@ use std::str::Chars;
 struct SiteNames<const I: usize> {}
 
 impl<const I: usize> Label for SiteNames<I> {
-    ghost label = { if I == 0 then codes "host"
-        else if I == 1 then codes "port"
-        else if I == 2 then codes "first"
-        else if I == 3 then codes "tags"
-        else codes "owner" };
+    ghost label = { if I == 0 then codes "host" else if I == 1 then codes "port"
+        else if I == 2 then codes "first" else if I == 3 then codes "tags" else codes "owner" };
 
     fn text() -> &'static str {
-        match I {
-            0 => "host",
-            1 => "port",
-            2 => "first",
-            3 => "tags",
-            _ => "owner",
-        }
+        nano_schema::name_of!(I, 0 => "host", 1 => "port", 2 => "first", 3 => "tags",
+            _ => "owner")
     }
-}
-
-/// The default of `port`.
-struct SitePortDefault {}
-
-impl DefaultOf<u16> for SitePortDefault {
-    ghost missing = { whole 8080 };
-
-    fn default(_alloc: Global) -> Result<u16, AllocError> {
-        Ok(8080)
-    }
-}
-
-impl JsonDefaultOf<u16> for SitePortDefault {
-    ghost is_sound = { λ x e. tt };
-}
-
-impl RonDefaultOf<u16> for SitePortDefault {
-    ghost is_sound = { λ x e. tt };
 }
 
 /// The default of `page`.
@@ -75,18 +42,10 @@ impl DefaultOf<String> for SitePageDefault {
     }
 }
 
-impl JsonDefaultOf<String> for SitePageDefault {
-    ghost is_sound = { λ x e. tt };
-}
-
-impl RonDefaultOf<String> for SitePageDefault {
-    ghost is_sound = { λ x e. tt };
-}
-
 type SiteFields = (
     (
         Required<SiteNames<0>, String>,
-        Defaulted<SiteNames<1>, u16, SitePortDefault>,
+        Defaulted<SiteNames<1>, u16, DefaultU16<8080>>,
     ),
     (
         Defaulted<SiteNames<2>, String, SitePageDefault>,
@@ -98,10 +57,7 @@ type SiteFields = (
 );
 
 impl StructSchema for Site {
-    type Values = (
-        (String, u16),
-        (String, (std::vec::Vec<std::string::String>, Option<String>)),
-    );
+    type Values = <SiteFields as Shape>::Values;
 
     ghost view = { λ x. ((x.host, x.port), (x.page, (x.tags, x.owner))) };
 
@@ -119,13 +75,7 @@ impl StructSchema for Site {
 }
 
 impl<'a> FieldRefs<'a> for Site {
-    type Refs = (
-        (&'a String, &'a u16),
-        (
-            &'a String,
-            (&'a std::vec::Vec<std::string::String>, &'a Option<String>),
-        ),
-    );
+    type Refs = <SiteFields as Borrowed<'a>>::Refs;
 
     ghost values = { ⟦<SiteFields as Borrowed<'a>>⟧.values };
 
@@ -143,11 +93,9 @@ impl Value for Site {
     ghost legal = { ⟦<SiteFields as Shape>⟧.legal };
 
     fn known(&self) {
-        known_record::<Self, SiteFields>(self);
+        nano_schema::known_record::<Self, SiteFields>(self);
     }
 }
-
-// ---- bytes
 
 impl BinCodec for Site {
     ghost bin = { bin_of ⟦<Site as StructSchema>⟧.view ⟦<SiteFields as BinShape>⟧.codec };
@@ -157,7 +105,7 @@ impl BinCodec for Site {
 
 impl SerBin for Site {
     fn ser_bin(&self, alloc: Global, output: &mut Vec<u8>) -> Result<(), AllocError> {
-        write_record_bin::<Self, SiteFields>(self, alloc, output)
+        nano_bin_schema::write_record_bin::<Self, SiteFields>(self, alloc, output)
     }
 }
 
@@ -165,11 +113,9 @@ impl DeBin for Site {
     ghost is_decodable = { refl };
 
     fn de_bin(alloc: Global, offset: &mut usize, bytes: &[u8]) -> Result<Self, DeBinErr> {
-        read_record_bin::<Self, SiteFields>(alloc, offset, bytes)
+        nano_bin_schema::read_record_bin::<Self, SiteFields>(alloc, offset, bytes)
     }
 }
-
-// ---- JSON
 
 impl JsonCodec for Site {
     ghost json = { json_of ⟦<Site as StructSchema>⟧.view ⟦<SiteFields as JsonShape>⟧.codec refl };
@@ -179,13 +125,13 @@ impl JsonCodec for Site {
 
 impl SerJson for Site {
     fn ser_json(&self, alloc: Global, d: usize, s: &mut SerJsonState) -> Result<(), AllocError> {
-        write_record_json::<Self, SiteFields>(self, alloc, d, s)
+        nano_json_schema::write_record_json::<Self, SiteFields>(self, alloc, d, s)
     }
 }
 
 impl DeJson for Site {
     fn de_json(alloc: Global, state: &mut DeJsonState, input: &mut Chars<'_>) -> JsonResult<Self> {
-        read_record_json::<Self, SiteFields>(alloc, state, input)
+        nano_json_schema::read_record_json::<Self, SiteFields>(alloc, state, input)
     }
 
     fn de_json_plain(
@@ -194,11 +140,9 @@ impl DeJson for Site {
         input: &mut Chars<'_>,
         text: &mut String,
     ) -> Option<Self> {
-        take_record_json::<Self, SiteFields>(alloc, place, input, text)
+        nano_json_schema::take_record_json::<Self, SiteFields>(alloc, place, input, text)
     }
 }
-
-// ---- RON
 
 impl RonCodec for Site {
     ghost ron = { ron_of ⟦<Site as StructSchema>⟧.view ⟦<SiteFields as RonShape>⟧.codec refl };
@@ -208,12 +152,12 @@ impl RonCodec for Site {
 
 impl SerRon for Site {
     fn ser_ron(&self, alloc: Global, d: usize, s: &mut SerRonState) -> Result<(), AllocError> {
-        write_record_ron::<Self, SiteFields>(self, alloc, d, s)
+        nano_ron_schema::write_record_ron::<Self, SiteFields>(self, alloc, d, s)
     }
 }
 
 impl DeRon for Site {
     fn de_ron(alloc: Global, state: &mut DeRonState, input: &mut Chars<'_>) -> RonResult<Self> {
-        read_record_ron::<Self, SiteFields>(alloc, state, input)
+        nano_ron_schema::read_record_ron::<Self, SiteFields>(alloc, state, input)
     }
 }

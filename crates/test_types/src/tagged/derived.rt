@@ -1,27 +1,21 @@
 //! Written by derive_files: how the types of the module above are encoded.
 
 ghost use Rattle.std.specs.Prelude.{codes, ◌==◌, if◌then◌else◌, refl};
-ghost use Rattle.nano_schema.specs.UserTypes.{whole, agreed, seen_agrees, pair_agrees};
-ghost use Rattle.nano_schema.specs.UserTypes.{option_agrees, list_agrees};
 ghost use Rattle.nano_bin_schema.specs.Structs.{bin_of, both_are_read};
+ghost use Rattle.nano_schema.specs.UserTypes.{agreed, seen_agrees, pair_agrees, option_agrees};
+ghost use Rattle.nano_schema.specs.UserTypes.{list_agrees};
 ghost use Rattle.nano_json_schema.specs.Structs.{json_of};
 ghost use Rattle.nano_ron_schema.specs.Structs.{ron_of};
 
 use super::*;
-use nano_bin_schema::{
-    BinCodec, BinShape, DeBin, DeBinErr, SerBin, read_record_bin, write_record_bin,
-};
+use nano_bin_schema::{BinCodec, BinShape, DeBin, DeBinErr, SerBin};
 use nano_json_schema::{
-    DeJson, DeJsonState, JsonCodec, JsonDefaultOf, JsonResult, JsonShape, Place, SerJson,
-    SerJsonState, read_record_json, take_record_json, write_record_json,
+    DeJson, DeJsonState, JsonCodec, JsonResult, JsonShape, Place, SerJson, SerJsonState,
 };
-use nano_ron_schema::{
-    DeRon, DeRonState, RonCodec, RonDefaultOf, RonResult, RonShape, SerRon, SerRonState,
-    read_record_ron, write_record_ron,
-};
+use nano_ron_schema::{DeRon, DeRonState, RonCodec, RonResult, RonShape, SerRon, SerRonState};
 use nano_schema::{
-    Borrowed, DefaultOf, Defaulted, FieldRefs, Label, Optional, Required, Shape, StructSchema,
-    Value, known_record,
+    Borrowed, DefaultU32, Defaulted, FieldRefs, Label, Optional, Required, Shape, StructSchema,
+    Value,
 };
 use std::alloc::{AllocError, Global};
 use std::str::Chars;
@@ -29,50 +23,24 @@ use std::str::Chars;
 struct TaggedNames<const I: usize> {}
 
 impl<const I: usize> Label for TaggedNames<I> {
-    ghost label = { if I == 0 then codes "first"
-        else if I == 1 then codes "other"
-        else if I == 2 then codes "more"
-        else codes "times" };
+    ghost label = { if I == 0 then codes "first" else if I == 1 then codes "other"
+        else if I == 2 then codes "more" else codes "times" };
 
     fn text() -> &'static str {
-        match I {
-            0 => "first",
-            1 => "other",
-            2 => "more",
-            _ => "times",
-        }
+        nano_schema::name_of!(I, 0 => "first", 1 => "other", 2 => "more", _ => "times")
     }
-}
-
-/// The default of `times`.
-struct TaggedTimesDefault {}
-
-impl DefaultOf<u32> for TaggedTimesDefault {
-    ghost missing = { whole 1 };
-
-    fn default(_alloc: Global) -> Result<u32, AllocError> {
-        Ok(1)
-    }
-}
-
-impl JsonDefaultOf<u32> for TaggedTimesDefault {
-    ghost is_sound = { λ x e. tt };
-}
-
-impl RonDefaultOf<u32> for TaggedTimesDefault {
-    ghost is_sound = { λ x e. tt };
 }
 
 type TaggedFields<A, B> = (
     (Required<TaggedNames<0>, A>, Optional<TaggedNames<1>, B>),
     (
         Required<TaggedNames<2>, Vec<A>>,
-        Defaulted<TaggedNames<3>, u32, TaggedTimesDefault>,
+        Defaulted<TaggedNames<3>, u32, DefaultU32<1>>,
     ),
 );
 
 impl<A: Value, B: Value> StructSchema for Tagged<A, B> {
-    type Values = ((A, Option<B>), (Vec<A>, u32));
+    type Values = <TaggedFields<A, B> as Shape>::Values;
 
     ghost view = { λ x. ((x.first, x.second), (x.more, x.times)) };
 
@@ -89,7 +57,7 @@ impl<A: Value, B: Value> StructSchema for Tagged<A, B> {
 }
 
 impl<'a, A: Value + 'a, B: Value + 'a> FieldRefs<'a> for Tagged<A, B> {
-    type Refs = ((&'a A, &'a Option<B>), (&'a Vec<A>, &'a u32));
+    type Refs = <TaggedFields<A, B> as Borrowed<'a>>::Refs;
 
     ghost values = { ⟦<TaggedFields<A, B> as Borrowed<'a>>⟧.values };
 
@@ -105,11 +73,9 @@ impl<A: Value, B: Value> Value for Tagged<A, B> {
     ghost legal = { ⟦<TaggedFields<A, B> as Shape>⟧.legal };
 
     fn known(&self) {
-        known_record::<Self, TaggedFields<A, B>>(self);
+        nano_schema::known_record::<Self, TaggedFields<A, B>>(self);
     }
 }
-
-// ---- bytes
 
 impl<A: BinCodec, B: BinCodec> BinCodec for Tagged<A, B> {
     ghost bin = { bin_of ⟦<Tagged<A, B> as StructSchema>⟧.view
@@ -123,7 +89,7 @@ impl<A: BinCodec, B: BinCodec> BinCodec for Tagged<A, B> {
 
 impl<A: SerBin, B: SerBin> SerBin for Tagged<A, B> {
     fn ser_bin(&self, alloc: Global, output: &mut Vec<u8>) -> Result<(), AllocError> {
-        write_record_bin::<Self, TaggedFields<A, B>>(self, alloc, output)
+        nano_bin_schema::write_record_bin::<Self, TaggedFields<A, B>>(self, alloc, output)
     }
 }
 
@@ -132,11 +98,9 @@ impl<A: DeBin, B: DeBin> DeBin for Tagged<A, B> {
         (both_are_read A.is_decodable refl)) };
 
     fn de_bin(alloc: Global, offset: &mut usize, bytes: &[u8]) -> Result<Self, DeBinErr> {
-        read_record_bin::<Self, TaggedFields<A, B>>(alloc, offset, bytes)
+        nano_bin_schema::read_record_bin::<Self, TaggedFields<A, B>>(alloc, offset, bytes)
     }
 }
-
-// ---- JSON
 
 impl<A: JsonCodec, B: JsonCodec> JsonCodec for Tagged<A, B> {
     ghost json = { json_of ⟦<Tagged<A, B> as StructSchema>⟧.view
@@ -150,13 +114,13 @@ impl<A: JsonCodec, B: JsonCodec> JsonCodec for Tagged<A, B> {
 
 impl<A: SerJson, B: SerJson> SerJson for Tagged<A, B> {
     fn ser_json(&self, alloc: Global, d: usize, s: &mut SerJsonState) -> Result<(), AllocError> {
-        write_record_json::<Self, TaggedFields<A, B>>(self, alloc, d, s)
+        nano_json_schema::write_record_json::<Self, TaggedFields<A, B>>(self, alloc, d, s)
     }
 }
 
 impl<A: DeJson, B: DeJson> DeJson for Tagged<A, B> {
     fn de_json(alloc: Global, state: &mut DeJsonState, input: &mut Chars<'_>) -> JsonResult<Self> {
-        read_record_json::<Self, TaggedFields<A, B>>(alloc, state, input)
+        nano_json_schema::read_record_json::<Self, TaggedFields<A, B>>(alloc, state, input)
     }
 
     fn de_json_plain(
@@ -165,11 +129,9 @@ impl<A: DeJson, B: DeJson> DeJson for Tagged<A, B> {
         input: &mut Chars<'_>,
         text: &mut String,
     ) -> Option<Self> {
-        take_record_json::<Self, TaggedFields<A, B>>(alloc, place, input, text)
+        nano_json_schema::take_record_json::<Self, TaggedFields<A, B>>(alloc, place, input, text)
     }
 }
-
-// ---- RON
 
 impl<A: RonCodec, B: RonCodec> RonCodec for Tagged<A, B> {
     ghost ron = { ron_of ⟦<Tagged<A, B> as StructSchema>⟧.view
@@ -183,12 +145,12 @@ impl<A: RonCodec, B: RonCodec> RonCodec for Tagged<A, B> {
 
 impl<A: SerRon, B: SerRon> SerRon for Tagged<A, B> {
     fn ser_ron(&self, alloc: Global, d: usize, s: &mut SerRonState) -> Result<(), AllocError> {
-        write_record_ron::<Self, TaggedFields<A, B>>(self, alloc, d, s)
+        nano_ron_schema::write_record_ron::<Self, TaggedFields<A, B>>(self, alloc, d, s)
     }
 }
 
 impl<A: DeRon, B: DeRon> DeRon for Tagged<A, B> {
     fn de_ron(alloc: Global, state: &mut DeRonState, input: &mut Chars<'_>) -> RonResult<Self> {
-        read_record_ron::<Self, TaggedFields<A, B>>(alloc, state, input)
+        nano_ron_schema::read_record_ron::<Self, TaggedFields<A, B>>(alloc, state, input)
     }
 }

@@ -8,20 +8,14 @@ ghost use Rattle.nano_json_schema.specs.Enums.{json_choice};
 ghost use Rattle.nano_ron_schema.specs.Enums.{ron_choice};
 
 use super::*;
-use nano_bin_schema::{
-    BinCodec, BinShapes, DeBin, DeBinErr, SerBin, read_choice_bin, write_choice_bin,
-};
+use nano_bin_schema::{BinCodec, BinShapes, DeBin, DeBinErr, SerBin};
 use nano_json_schema::{
     DeJson, DeJsonState, JsonCodec, JsonResult, JsonShapes, SerJson, SerJsonState,
-    read_choice_json, write_choice_json,
 };
-use nano_ron_schema::{
-    DeRon, DeRonState, RonCodec, RonResult, RonShapes, SerRon, SerRonState, read_choice_ron,
-    write_choice_ron,
-};
+use nano_ron_schema::{DeRon, DeRonState, RonCodec, RonResult, RonShapes, SerRon, SerRonState};
 use nano_schema::{
     BorrowedChoices, Choices, Either, EnumSchema, Label, Required, Struct, Tuple, Unit, Value,
-    Variant, VariantRefs, known_variant,
+    Variant, VariantRefs,
 };
 use std::alloc::{AllocError, Global};
 use std::str::Chars;
@@ -29,16 +23,10 @@ use std::str::Chars;
 struct ChoiceNames<const I: usize> {}
 
 impl<const I: usize> Label for ChoiceNames<I> {
-    ghost label = { if I == 0 then codes "A"
-        else if I == 1 then codes "B"
-        else codes "C" };
+    ghost label = { if I == 0 then codes "A" else if I == 1 then codes "B" else codes "C" };
 
     fn text() -> &'static str {
-        match I {
-            0 => "A",
-            1 => "B",
-            _ => "C",
-        }
+        nano_schema::name_of!(I, 0 => "A", 1 => "B", _ => "C")
     }
 }
 
@@ -47,14 +35,10 @@ type ChoiceBParts = (i32, String);
 struct ChoiceCNames<const I: usize> {}
 
 impl<const I: usize> Label for ChoiceCNames<I> {
-    ghost label = { if I == 0 then codes "a"
-        else codes "b" };
+    ghost label = { if I == 0 then codes "a" else codes "b" };
 
     fn text() -> &'static str {
-        match I {
-            0 => "a",
-            _ => "b",
-        }
+        nano_schema::name_of!(I, 0 => "a", _ => "b")
     }
 }
 
@@ -144,11 +128,9 @@ impl Value for Choice {
     ghost legal = { LegalVariant ⟦<ChoiceVariants as Choices>⟧.legals };
 
     fn known(&self) {
-        known_variant::<Self, ChoiceVariants>(self);
+        nano_schema::known_variant::<Self, ChoiceVariants>(self);
     }
 }
-
-// ---- bytes
 
 impl BinCodec for Choice {
     ghost bin = { bin_choice ⟦<Choice as EnumSchema>⟧.view ⟦<ChoiceVariants as BinShapes>⟧.chosen
@@ -159,7 +141,7 @@ impl BinCodec for Choice {
 
 impl SerBin for Choice {
     fn ser_bin(&self, alloc: Global, output: &mut Vec<u8>) -> Result<(), AllocError> {
-        write_choice_bin::<Self, ChoiceVariants>(self, alloc, output)
+        nano_bin_schema::write_choice_bin::<Self, ChoiceVariants>(self, alloc, output)
     }
 }
 
@@ -167,11 +149,9 @@ impl DeBin for Choice {
     ghost is_decodable = { refl };
 
     fn de_bin(alloc: Global, offset: &mut usize, bytes: &[u8]) -> Result<Self, DeBinErr> {
-        read_choice_bin::<Self, ChoiceVariants>(alloc, offset, bytes)
+        nano_bin_schema::read_choice_bin::<Self, ChoiceVariants>(alloc, offset, bytes)
     }
 }
-
-// ---- JSON
 
 impl JsonCodec for Choice {
     ghost json = { json_choice ⟦<Choice as EnumSchema>⟧.view
@@ -182,17 +162,15 @@ impl JsonCodec for Choice {
 
 impl SerJson for Choice {
     fn ser_json(&self, alloc: Global, d: usize, s: &mut SerJsonState) -> Result<(), AllocError> {
-        write_choice_json::<Self, ChoiceVariants>(self, alloc, d, s)
+        nano_json_schema::write_choice_json::<Self, ChoiceVariants>(self, alloc, d, s)
     }
 }
 
 impl DeJson for Choice {
     fn de_json(alloc: Global, state: &mut DeJsonState, input: &mut Chars<'_>) -> JsonResult<Self> {
-        read_choice_json::<Self, ChoiceVariants>(alloc, state, input)
+        nano_json_schema::read_choice_json::<Self, ChoiceVariants>(alloc, state, input)
     }
 }
-
-// ---- RON
 
 impl RonCodec for Choice {
     ghost ron = { ron_choice ⟦<Choice as EnumSchema>⟧.view ⟦<ChoiceVariants as RonShapes>⟧.codec
@@ -203,12 +181,12 @@ impl RonCodec for Choice {
 
 impl SerRon for Choice {
     fn ser_ron(&self, alloc: Global, d: usize, s: &mut SerRonState) -> Result<(), AllocError> {
-        write_choice_ron::<Self, ChoiceVariants>(self, alloc, d, s)
+        nano_ron_schema::write_choice_ron::<Self, ChoiceVariants>(self, alloc, d, s)
     }
 }
 
 impl DeRon for Choice {
     fn de_ron(alloc: Global, state: &mut DeRonState, input: &mut Chars<'_>) -> RonResult<Self> {
-        read_choice_ron::<Self, ChoiceVariants>(alloc, state, input)
+        nano_ron_schema::read_choice_ron::<Self, ChoiceVariants>(alloc, state, input)
     }
 }

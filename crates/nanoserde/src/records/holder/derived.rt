@@ -7,18 +7,12 @@ ghost use Rattle.nano_json_schema.specs.Structs.{json_of};
 ghost use Rattle.nano_ron_schema.specs.Structs.{ron_of};
 
 use super::*;
-use nano_bin_schema::{
-    BinCodec, BinShape, DeBin, DeBinErr, SerBin, read_record_bin, write_record_bin,
-};
+use nano_bin_schema::{BinCodec, BinShape, DeBin, DeBinErr, SerBin};
 use nano_json_schema::{
     DeJson, DeJsonState, JsonCodec, JsonResult, JsonShape, Place, SerJson, SerJsonState,
-    read_record_json, take_record_json, write_record_json,
 };
-use nano_ron_schema::{
-    DeRon, DeRonState, RonCodec, RonResult, RonShape, SerRon, SerRonState, read_record_ron,
-    write_record_ron,
-};
-use nano_schema::{Borrowed, FieldRefs, Label, Required, Shape, StructSchema, Value, known_record};
+use nano_ron_schema::{DeRon, DeRonState, RonCodec, RonResult, RonShape, SerRon, SerRonState};
+use nano_schema::{Borrowed, FieldRefs, Label, Required, Shape, StructSchema, Value};
 use std::alloc::{AllocError, Global};
 use std::str::Chars;
 
@@ -35,7 +29,7 @@ impl Label for HolderName {
 type HolderFields<T> = Required<HolderName, T>;
 
 impl<T: Value> StructSchema for Holder<T> {
-    type Values = T;
+    type Values = <HolderFields<T> as Shape>::Values;
 
     ghost view = { λ x. x.x };
 
@@ -46,7 +40,7 @@ impl<T: Value> StructSchema for Holder<T> {
 }
 
 impl<'a, T: Value + 'a> FieldRefs<'a> for Holder<T> {
-    type Refs = &'a T;
+    type Refs = <HolderFields<T> as Borrowed<'a>>::Refs;
 
     ghost values = { ⟦<HolderFields<T> as Borrowed<'a>>⟧.values };
 
@@ -62,11 +56,9 @@ impl<T: Value> Value for Holder<T> {
     ghost legal = { ⟦<HolderFields<T> as Shape>⟧.legal };
 
     fn known(&self) {
-        known_record::<Self, HolderFields<T>>(self);
+        nano_schema::known_record::<Self, HolderFields<T>>(self);
     }
 }
-
-// ---- bytes
 
 impl<T: BinCodec> BinCodec for Holder<T> {
     ghost bin = { bin_of ⟦<Holder<T> as StructSchema>⟧.view ⟦<HolderFields<T> as BinShape>⟧.codec };
@@ -76,7 +68,7 @@ impl<T: BinCodec> BinCodec for Holder<T> {
 
 impl<T: SerBin> SerBin for Holder<T> {
     fn ser_bin(&self, alloc: Global, output: &mut Vec<u8>) -> Result<(), AllocError> {
-        write_record_bin::<Self, HolderFields<T>>(self, alloc, output)
+        nano_bin_schema::write_record_bin::<Self, HolderFields<T>>(self, alloc, output)
     }
 }
 
@@ -84,11 +76,9 @@ impl<T: DeBin> DeBin for Holder<T> {
     ghost is_decodable = { T.is_decodable };
 
     fn de_bin(alloc: Global, offset: &mut usize, bytes: &[u8]) -> Result<Self, DeBinErr> {
-        read_record_bin::<Self, HolderFields<T>>(alloc, offset, bytes)
+        nano_bin_schema::read_record_bin::<Self, HolderFields<T>>(alloc, offset, bytes)
     }
 }
-
-// ---- JSON
 
 impl<T: JsonCodec> JsonCodec for Holder<T> {
     ghost json = { json_of ⟦<Holder<T> as StructSchema>⟧.view
@@ -99,13 +89,13 @@ impl<T: JsonCodec> JsonCodec for Holder<T> {
 
 impl<T: SerJson> SerJson for Holder<T> {
     fn ser_json(&self, alloc: Global, d: usize, s: &mut SerJsonState) -> Result<(), AllocError> {
-        write_record_json::<Self, HolderFields<T>>(self, alloc, d, s)
+        nano_json_schema::write_record_json::<Self, HolderFields<T>>(self, alloc, d, s)
     }
 }
 
 impl<T: DeJson> DeJson for Holder<T> {
     fn de_json(alloc: Global, state: &mut DeJsonState, input: &mut Chars<'_>) -> JsonResult<Self> {
-        read_record_json::<Self, HolderFields<T>>(alloc, state, input)
+        nano_json_schema::read_record_json::<Self, HolderFields<T>>(alloc, state, input)
     }
 
     fn de_json_plain(
@@ -114,11 +104,9 @@ impl<T: DeJson> DeJson for Holder<T> {
         input: &mut Chars<'_>,
         text: &mut String,
     ) -> Option<Self> {
-        take_record_json::<Self, HolderFields<T>>(alloc, place, input, text)
+        nano_json_schema::take_record_json::<Self, HolderFields<T>>(alloc, place, input, text)
     }
 }
-
-// ---- RON
 
 impl<T: RonCodec> RonCodec for Holder<T> {
     ghost ron = { ron_of ⟦<Holder<T> as StructSchema>⟧.view ⟦<HolderFields<T> as RonShape>⟧.codec
@@ -129,12 +117,12 @@ impl<T: RonCodec> RonCodec for Holder<T> {
 
 impl<T: SerRon> SerRon for Holder<T> {
     fn ser_ron(&self, alloc: Global, d: usize, s: &mut SerRonState) -> Result<(), AllocError> {
-        write_record_ron::<Self, HolderFields<T>>(self, alloc, d, s)
+        nano_ron_schema::write_record_ron::<Self, HolderFields<T>>(self, alloc, d, s)
     }
 }
 
 impl<T: DeRon> DeRon for Holder<T> {
     fn de_ron(alloc: Global, state: &mut DeRonState, input: &mut Chars<'_>) -> RonResult<Self> {
-        read_record_ron::<Self, HolderFields<T>>(alloc, state, input)
+        nano_ron_schema::read_record_ron::<Self, HolderFields<T>>(alloc, state, input)
     }
 }
