@@ -16,7 +16,7 @@ impl<T, D> JsonShape for Skipped<T, D> {
     ghost codec = { no_fields };
 }
 
-impl<T: Value, D: DefaultOf<T>> JsonFields for Skipped<T, D> {
+impl<T: Value + Drop, D: DefaultOf<T>> JsonFields for Skipped<T, D> {
     type Values = T;
 
     type Slots = ();

@@ -15,7 +15,7 @@ impl<T, D> RonShape for Skipped<T, D> {
     ghost codec = { no_fields };
 }
 
-impl<T: Value, D: DefaultOf<T>> RonFields for Skipped<T, D> {
+impl<T: Value + Drop, D: DefaultOf<T>> RonFields for Skipped<T, D> {
     type Values = T;
 
     type Slots = ();
