@@ -21,7 +21,9 @@ use Rattle.nano_json_tokens.proofs.BracketCounts.{skipped_apart}
 use Rattle.nano_json_tokens.specs.Names.{IsPlainName, are_plain_names, quoted_name}
 use Rattle.nano_json_tokens.proofs.NamesLaws.{name_is_written, each_plain}
 pub use Rattle.nano_grammar.proofs.StructCodecLaws.{fields_codec}
+use Rattle.nano_grammar.proofs.PairsLaws.{next_codec}
 use Rattle.nano_grammar.proofs.TuplesLaws.{last_codec, tuple_codec}
+use Rattle.nano_grammar.specs.BaseCodecs.{part_style}
 use Rattle.nano_json.specs.Codec.{Codec, codec_as}
 use Rattle.nano_json.specs.ScalarCodecs.{unsigned_codec, signed_codec, below_8, below_16, below_32}
 use Rattle.nano_json.specs.ScalarCodecs.{below_64, within_8, within_16, within_32, within_64}
@@ -164,3 +166,11 @@ string_codec = codec_as (λ x. string_bytes x) text_codec
 abbrev pub single_codec : {A : Type 0} → Codec A → Codec A
 single_codec f =
     tuple_codec tuple_style block_brackets (last_codec tuple_style block_brackets f)
+
+-- a part and the comma after it, and the parts that follow with the closing bracket
+abbrev pub next_part : {A B : Type 0} → Codec A → Codec B → Codec (A × B)
+next_part f others = next_codec (part_style tuple_style) block_brackets.divides f others
+
+-- the opening bracket, and a row of parts after it
+abbrev pub row_codec : {A : Type 0} → Codec A → Codec A
+row_codec parts = tuple_codec tuple_style block_brackets parts

@@ -67,7 +67,7 @@ impl<T: SerJson> SerJson for InBrackets<T> {
 }
 
 /// Reads a value and the closing bracket after it.
-fn read_last<T: DeJson>(
+pub(crate) fn read_last<T: DeJson>(
     alloc: Global,
     state: &mut DeJsonState,
     input: &mut Chars<'_>,

@@ -26,6 +26,7 @@ mod tuples;
 mod unknown;
 mod variant_writer;
 mod variants;
+mod wide;
 mod writer;
 
 pub use aliased::JsonField;
@@ -47,6 +48,7 @@ pub use variant_writer::{write_fields_variant, write_unit_variant, write_variant
 pub use variants::{
     VariantName, read_content, read_fields_content, read_variant_name, unknown_variant,
 };
+pub use wide::{JsonParts, JsonPartsRead, JsonPartsRefs, read_tuple_json, write_tuple_json};
 pub use writer::write_fields;
 
 /// What a reader of JSON answers.

@@ -10,12 +10,15 @@ use Rattle.nano_grammar.proofs.DefaultsLaws.{default_field}
 use Rattle.nano_grammar.specs.FieldCodec.{AreNames, FieldsCodec}
 use Rattle.nano_grammar.proofs.FieldCodecLaws.{must_field, may_field}
 use Rattle.nano_grammar.proofs.NoFieldsLaws.{no_field}
+use Rattle.nano_grammar.proofs.PairsLaws.{next_codec}
+use Rattle.nano_grammar.proofs.TuplesLaws.{tuple_codec}
+use Rattle.nano_grammar.specs.BaseCodecs.{part_style}
 use Rattle.nano_grammar.specs.Fields.{FieldStyle}
 use Rattle.nano_ron_tokens.specs.Cut.{IsName, ron_grammar}
 use Rattle.nano_ron_tokens.proofs.RonLaws.{ron, parens_are, paren_brackets}
 use Rattle.nano_ron_tokens.proofs.ScalarsLaws.{none_style}
 use Rattle.nano_ron_tokens.specs.Written.{lines}
-use Rattle.nano_ron_tokens.proofs.StylesLaws.{lines_written, entry_style}
+use Rattle.nano_ron_tokens.proofs.StylesLaws.{lines_written, entry_style, tuple_style}
 use Rattle.nano_ron_tokens.specs.Names.{are_names}
 use Rattle.nano_ron_tokens.proofs.NamesLaws.{name_is_written, good_names}
 
@@ -90,3 +93,14 @@ fields_pair = also_fields
 -- given
 pub word_names : {names : List (List ℕ)} → are_names names ≡ true → AreNames ron_fields names
 word_names {names} h = record { each = good_names names h }
+
+-- ==== parts of tuple structs
+
+-- a part and the comma after it, and the parts that follow with the closing parenthesis
+abbrev pub next_part : {A B : Type 0} → Codec ron ron_grammar A → Codec ron ron_grammar B
+    → Codec ron ron_grammar (A × B)
+next_part f others = next_codec (part_style tuple_style) paren_brackets.divides f others
+
+-- the opening parenthesis, and a row of parts after it
+abbrev pub row_codec : {A : Type 0} → Codec ron ron_grammar A → Codec ron ron_grammar A
+row_codec parts = tuple_codec tuple_style paren_brackets parts

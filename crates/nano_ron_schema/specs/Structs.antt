@@ -7,7 +7,7 @@ use Rattle.nano_grammar.specs.Fields.{are_distinct}
 use Rattle.nano_ron.specs.Codec.{Codec}
 -- what a tuple struct needs, passed on
 pub use Rattle.nano_ron.specs.Codec.{codec_as}
-use Rattle.nano_ron_schema.specs.FieldCodecs.{ron_fields, word_names, fields_codec}
+use Rattle.nano_ron_schema.specs.FieldCodecs.{ron_fields, word_names, fields_codec, row_codec}
 use Rattle.nano_ron_tokens.specs.Names.{are_names}
 
 -- a struct as the values of its fields, and their format. The last is `refl`: it checks that the
@@ -19,3 +19,7 @@ ron_of view fields good =
     let all = fields.canonical.names in
     let parts = and_parts (are_names all) (are_distinct all) (sym good) in
     codec_as view (fields_codec fields (word_names {names = all} parts.0) parts.1)
+
+-- a tuple struct as the values of its parts, and the format of their row
+abbrev pub tuple_ron_of : {A B : Type 0} → (A → B) → Codec B → Codec A
+tuple_ron_of view parts = codec_as view (row_codec parts)

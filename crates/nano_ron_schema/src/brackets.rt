@@ -65,7 +65,7 @@ impl<T: SerRon> SerRon for InBrackets<T> {
 }
 
 /// Reads a value and the closing parenthesis after it.
-fn read_last<T: DeRon>(
+pub(crate) fn read_last<T: DeRon>(
     alloc: Global,
     state: &mut DeRonState,
     input: &mut Chars<'_>,

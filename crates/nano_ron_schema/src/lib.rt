@@ -23,6 +23,7 @@ mod skipped;
 mod tuples;
 mod variant_writer;
 mod variants;
+mod wide;
 mod writer;
 
 pub use aliased::RonField;
@@ -37,6 +38,7 @@ pub use read::read_fields;
 pub use record::{read_parts_ron, read_record_ron, write_record_ron};
 pub use variant_writer::{write_fields_variant, write_unit_variant, write_variant};
 pub use variants::{read_content, read_fields_content, read_variant_name, unknown_variant};
+pub use wide::{RonParts, RonPartsRead, RonPartsRefs, read_tuple_ron, write_tuple_ron};
 pub use writer::write_fields;
 
 /// What a reader of RON answers.
