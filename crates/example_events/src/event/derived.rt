@@ -16,7 +16,7 @@ use nano_schema::{
 use std::alloc::{AllocError, Global};
 use std::str::Chars;
 
-struct EventNames<const I: usize> {}
+pub struct EventNames<const I: usize> {}
 
 impl<const I: usize> Label for EventNames<I> {
     ghost label = { if I == 0 then codes "Opened" else if I == 1 then codes "PaidIn"
@@ -27,7 +27,7 @@ impl<const I: usize> Label for EventNames<I> {
     }
 }
 
-struct EventOpenedName {}
+pub struct EventOpenedName {}
 
 impl Label for EventOpenedName {
     ghost label = { codes "account" };
@@ -39,7 +39,7 @@ impl Label for EventOpenedName {
 
 type EventOpenedParts = Required<EventOpenedName, String>;
 
-struct EventPaidInNames<const I: usize> {}
+pub struct EventPaidInNames<const I: usize> {}
 
 impl<const I: usize> Label for EventPaidInNames<I> {
     ghost label = { if I == 0 then codes "account" else codes "cents" };
@@ -54,7 +54,7 @@ type EventPaidInParts = (
     Required<EventPaidInNames<1>, u64>,
 );
 
-struct EventPaidOutNames<const I: usize> {}
+pub struct EventPaidOutNames<const I: usize> {}
 
 impl<const I: usize> Label for EventPaidOutNames<I> {
     ghost label = { if I == 0 then codes "account" else if I == 1 then codes "cents"

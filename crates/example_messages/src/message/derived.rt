@@ -13,7 +13,7 @@ use nano_schema::{
 };
 use std::alloc::{AllocError, Global};
 
-struct MessageNames<const I: usize> {}
+pub struct MessageNames<const I: usize> {}
 
 impl<const I: usize> Label for MessageNames<I> {
     ghost label = { if I == 0 then codes "Leave" else if I == 1 then codes "Move"
@@ -26,7 +26,7 @@ impl<const I: usize> Label for MessageNames<I> {
 
 type MessageMoveParts = (u32, Vec<i16>);
 
-struct MessageSayNames<const I: usize> {}
+pub struct MessageSayNames<const I: usize> {}
 
 impl<const I: usize> Label for MessageSayNames<I> {
     ghost label = { if I == 0 then codes "text" else codes "to" };

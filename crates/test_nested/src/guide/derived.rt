@@ -16,7 +16,7 @@ use nano_schema::{Label, Optional, Required, StructSchema, Value};
 use std::alloc::{AllocError, Global};
 use std::str::Chars;
 
-struct GuideNames<const I: usize> {}
+pub struct GuideNames<const I: usize> {}
 
 impl<const I: usize> Label for GuideNames<I> {
     ghost label = { if I == 0 then codes "name" else if I == 1 then codes "stops"
@@ -291,7 +291,7 @@ impl DeRon for Guide {
     }
 }
 
-struct StopNames<const I: usize> {}
+pub struct StopNames<const I: usize> {}
 
 impl<const I: usize> Label for StopNames<I> {
     ghost label = { if I == 0 then codes "ways" else codes "best" };
@@ -535,7 +535,7 @@ impl DeRon for Stop {
     }
 }
 
-struct WayNames<const I: usize> {}
+pub struct WayNames<const I: usize> {}
 
 impl<const I: usize> Label for WayNames<I> {
     ghost label = { if I == 0 then codes "minutes" else codes "guide" };

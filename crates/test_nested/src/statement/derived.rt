@@ -18,7 +18,7 @@ use nano_schema::{
 use std::alloc::{AllocError, Global};
 use std::str::Chars;
 
-struct StatementNames<const I: usize> {}
+pub struct StatementNames<const I: usize> {}
 
 impl<const I: usize> Label for StatementNames<I> {
     ghost label = { if I == 0 then codes "Assign" else if I == 1 then codes "Block"
@@ -340,7 +340,7 @@ impl DeRon for Statement {
     }
 }
 
-struct BranchNames<const I: usize> {}
+pub struct BranchNames<const I: usize> {}
 
 impl<const I: usize> Label for BranchNames<I> {
     ghost label = { if I == 0 then codes "then" else codes "otherwise" };

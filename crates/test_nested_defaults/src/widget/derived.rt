@@ -21,7 +21,7 @@ use nano_schema::{
 use std::alloc::{AllocError, Global};
 use std::str::Chars;
 
-struct WidgetNames<const I: usize> {}
+pub struct WidgetNames<const I: usize> {}
 
 impl<const I: usize> Label for WidgetNames<I> {
     ghost label = { if I == 0 then codes "title" else if I == 1 then codes "shortcut"
@@ -36,7 +36,7 @@ impl<const I: usize> Label for WidgetNames<I> {
 }
 
 /// The default of `shortcut`.
-struct WidgetShortcutDefault {}
+pub struct WidgetShortcutDefault {}
 
 impl DefaultOf<String> for WidgetShortcutDefault {
     ghost missing = { text (codes "none") };

@@ -18,7 +18,7 @@ use nano_schema::{Label, Optional, Required, StructSchema, Value};
 use std::alloc::{AllocError, Global};
 use std::str::Chars;
 
-struct ChainNames<const I: usize> {}
+pub struct ChainNames<const I: usize> {}
 
 impl<const I: usize> Label for ChainNames<I> {
     ghost label = { if I == 0 then codes "number" else codes "next" };

@@ -15,7 +15,7 @@ use nano_schema::{Either, EnumSchema, Label, Newtype, Tuple, Value, Variant};
 use std::alloc::{AllocError, Global};
 use std::str::Chars;
 
-struct ExpressionNames<const I: usize> {}
+pub struct ExpressionNames<const I: usize> {}
 
 impl<const I: usize> Label for ExpressionNames<I> {
     ghost label = { if I == 0 then codes "Number" else if I == 1 then codes "Negated"

@@ -18,7 +18,7 @@ use nano_schema::{Label, Required, StructSchema, Value};
 use std::alloc::{AllocError, Global};
 use std::str::Chars;
 
-struct FolderNames<const I: usize> {}
+pub struct FolderNames<const I: usize> {}
 
 impl<const I: usize> Label for FolderNames<I> {
     ghost label = { if I == 0 then codes "name" else codes "folders" };

@@ -19,7 +19,7 @@ use nano_schema::{
 use std::alloc::{AllocError, Global};
 use std::str::Chars;
 
-struct RuleNames<const I: usize> {}
+pub struct RuleNames<const I: usize> {}
 
 impl<const I: usize> Label for RuleNames<I> {
     ghost label = { if I == 0 then codes "Always" else if I == 1 then codes "From"
@@ -30,7 +30,7 @@ impl<const I: usize> Label for RuleNames<I> {
     }
 }
 
-struct RuleWhenNames<const I: usize> {}
+pub struct RuleWhenNames<const I: usize> {}
 
 impl<const I: usize> Label for RuleWhenNames<I> {
     ghost label = { if I == 0 then codes "condition" else if I == 1 then codes "then"

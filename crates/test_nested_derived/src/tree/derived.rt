@@ -15,7 +15,7 @@ use nano_schema::{Either, EnumSchema, Label, Newtype, Value, Variant};
 use std::alloc::{AllocError, Global};
 use std::str::Chars;
 
-struct TreeNames<const I: usize> {}
+pub struct TreeNames<const I: usize> {}
 
 impl<const I: usize> Label for TreeNames<I> {
     ghost label = { if I == 0 then codes "Leaf" else codes "Node" };

@@ -16,7 +16,7 @@ use nano_schema::{Label, Optional, Required, StructSchema, Value};
 use std::alloc::{AllocError, Global};
 use std::str::Chars;
 
-struct CommentNames<const I: usize> {}
+pub struct CommentNames<const I: usize> {}
 
 impl<const I: usize> Label for CommentNames<I> {
     ghost label = { if I == 0 then codes "author" else if I == 1 then codes "text"

@@ -19,7 +19,7 @@ use nano_schema::{
 use std::alloc::{AllocError, Global};
 use std::str::Chars;
 
-struct FilterNames<const I: usize> {}
+pub struct FilterNames<const I: usize> {}
 
 impl<const I: usize> Label for FilterNames<I> {
     ghost label = { if I == 0 then codes "Any" else if I == 1 then codes "Not"
@@ -32,7 +32,7 @@ impl<const I: usize> Label for FilterNames<I> {
 
 type FilterAtLeastParts = (Other<Newtype<u8>>, Within<Newtype<Vec<Filter>>>);
 
-struct FilterHasNames<const I: usize> {}
+pub struct FilterHasNames<const I: usize> {}
 
 impl<const I: usize> Label for FilterHasNames<I> {
     ghost label = { if I == 0 then codes "field" else codes "and" };

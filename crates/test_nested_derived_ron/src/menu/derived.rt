@@ -18,7 +18,7 @@ use nano_schema::{Label, Required, StructSchema, Value};
 use std::alloc::{AllocError, Global};
 use std::str::Chars;
 
-struct MenuNames<const I: usize> {}
+pub struct MenuNames<const I: usize> {}
 
 impl<const I: usize> Label for MenuNames<I> {
     ghost label = { if I == 0 then codes "title" else codes "entries" };

@@ -15,7 +15,7 @@ use nano_schema::{Either, EnumSchema, Label, Newtype, Unit, Value, Variant};
 use std::alloc::{AllocError, Global};
 use std::str::Chars;
 
-struct SettingNames<const I: usize> {}
+pub struct SettingNames<const I: usize> {}
 
 impl<const I: usize> Label for SettingNames<I> {
     ghost label = { if I == 0 then codes "Unset" else if I == 1 then codes "Text"

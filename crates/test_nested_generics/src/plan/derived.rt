@@ -22,7 +22,7 @@ use nano_schema::{
 use std::alloc::{AllocError, Global};
 use std::str::Chars;
 
-struct PlanNames<const I: usize> {}
+pub struct PlanNames<const I: usize> {}
 
 impl<const I: usize> Label for PlanNames<I> {
     ghost label = { if I == 0 then codes "Nothing" else if I == 1 then codes "One"
@@ -36,7 +36,7 @@ impl<const I: usize> Label for PlanNames<I> {
 
 type PlanBothParts<T> = (Within<Newtype<Box<Plan<T>>>>, Other<Newtype<Option<T>>>);
 
-struct PlanStepNames<const I: usize> {}
+pub struct PlanStepNames<const I: usize> {}
 
 impl<const I: usize> Label for PlanStepNames<I> {
     ghost label = { if I == 0 then codes "item" else codes "next" };

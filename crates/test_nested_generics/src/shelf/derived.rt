@@ -19,7 +19,7 @@ use nano_schema::{Label, Optional, Required, StructSchema, Value};
 use std::alloc::{AllocError, Global};
 use std::str::Chars;
 
-struct ShelfNames<const I: usize> {}
+pub struct ShelfNames<const I: usize> {}
 
 impl<const I: usize> Label for ShelfNames<I> {
     ghost label = { if I == 0 then codes "name" else if I == 1 then codes "values"

@@ -29,7 +29,7 @@ use nano_schema::{
 use std::alloc::{AllocError, Global};
 use std::str::Chars;
 
-struct WeatherNames<const I: usize> {}
+pub struct WeatherNames<const I: usize> {}
 
 impl<const I: usize> Label for WeatherNames<I> {
     ghost label = { if I == 0 then codes "Dry" else codes "Rain" };
@@ -165,7 +165,7 @@ impl DeRon for Weather {
     }
 }
 
-struct CampNames<const I: usize> {}
+pub struct CampNames<const I: usize> {}
 
 impl<const I: usize> Label for CampNames<I> {
     ghost label = { if I == 0 then codes "weather" else codes "camps" };
@@ -471,7 +471,7 @@ impl DeRon for Camp {
     }
 }
 
-struct RouteNames<const I: usize> {}
+pub struct RouteNames<const I: usize> {}
 
 impl<const I: usize> Label for RouteNames<I> {
     ghost label = { if I == 0 then codes "End" else codes "Step" };
@@ -481,7 +481,7 @@ impl<const I: usize> Label for RouteNames<I> {
     }
 }
 
-struct RouteStepNames<const I: usize> {}
+pub struct RouteStepNames<const I: usize> {}
 
 impl<const I: usize> Label for RouteStepNames<I> {
     ghost label = { if I == 0 then codes "weather" else codes "rest" };

@@ -19,7 +19,7 @@ use nano_schema::{
 use std::alloc::{AllocError, Global};
 use std::str::Chars;
 
-struct ModeNames<const I: usize> {}
+pub struct ModeNames<const I: usize> {}
 
 impl<const I: usize> Label for ModeNames<I> {
     ghost label = { if I == 0 then codes "Easy" else codes "Hard" };

@@ -21,7 +21,7 @@ use nano_schema::{
 use std::alloc::{AllocError, Global};
 use std::str::Chars;
 
-struct PlanNames<const I: usize> {}
+pub struct PlanNames<const I: usize> {}
 
 impl<const I: usize> Label for PlanNames<I> {
     ghost label = { if I == 0 then codes "End" else if I == 1 then codes "Go"
@@ -34,7 +34,7 @@ impl<const I: usize> Label for PlanNames<I> {
 
 type PlanGoParts = (Other<Newtype<Scene>>, Within<Newtype<Box<Plan>>>);
 
-struct PlanChooseNames<const I: usize> {}
+pub struct PlanChooseNames<const I: usize> {}
 
 impl<const I: usize> Label for PlanChooseNames<I> {
     ghost label = { if I == 0 then codes "at" else codes "plans" };

@@ -21,7 +21,7 @@ use nano_schema::{
 use std::alloc::{AllocError, Global};
 use std::str::Chars;
 
-struct QuestNames<const I: usize> {}
+pub struct QuestNames<const I: usize> {}
 
 impl<const I: usize> Label for QuestNames<I> {
     ghost label = { if I == 0 then codes "Win" else if I == 1 then codes "Bring"
@@ -34,7 +34,7 @@ impl<const I: usize> Label for QuestNames<I> {
 
 type QuestBringParts = (Other<Newtype<Item>>, Within<Newtype<Box<Quest>>>);
 
-struct QuestAllNames<const I: usize> {}
+pub struct QuestAllNames<const I: usize> {}
 
 impl<const I: usize> Label for QuestAllNames<I> {
     ghost label = { if I == 0 then codes "quests" else if I == 1 then codes "modes"

@@ -18,7 +18,7 @@ use nano_schema::{Label, Required, StructSchema, Value};
 use std::alloc::{AllocError, Global};
 use std::str::Chars;
 
-struct SceneNames<const I: usize> {}
+pub struct SceneNames<const I: usize> {}
 
 impl<const I: usize> Label for SceneNames<I> {
     ghost label = { if I == 0 then codes "mode" else codes "scenes" };

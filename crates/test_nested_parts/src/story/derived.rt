@@ -25,7 +25,7 @@ use nano_schema::{
 use std::alloc::{AllocError, Global};
 use std::str::Chars;
 
-struct StoryNames<const I: usize> {}
+pub struct StoryNames<const I: usize> {}
 
 impl<const I: usize> Label for StoryNames<I> {
     ghost label = { if I == 0 then codes "title" else if I == 1 then codes "first"
@@ -156,7 +156,7 @@ impl DeRon for Story {
     }
 }
 
-struct EndingNames<const I: usize> {}
+pub struct EndingNames<const I: usize> {}
 
 impl<const I: usize> Label for EndingNames<I> {
     ghost label = { if I == 0 then codes "Open" else if I == 1 then codes "In"
@@ -171,7 +171,7 @@ type EndingInParts = Scene;
 
 type EndingWonParts = (Quest, Option<Scene>);
 
-struct EndingOneOfName {}
+pub struct EndingOneOfName {}
 
 impl Label for EndingOneOfName {
     ghost label = { codes "scenes" };

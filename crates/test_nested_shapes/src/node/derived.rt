@@ -20,7 +20,7 @@ use nano_schema::{
 use std::alloc::{AllocError, Global};
 use std::str::Chars;
 
-struct NodeNames<const I: usize> {}
+pub struct NodeNames<const I: usize> {}
 
 impl<const I: usize> Label for NodeNames<I> {
     ghost label = { if I == 0 then codes "name" else if I == 1 then codes "at"
@@ -395,7 +395,7 @@ impl DeRon for Node {
     }
 }
 
-struct TrailNames<const I: usize> {}
+pub struct TrailNames<const I: usize> {}
 
 impl<const I: usize> Label for TrailNames<I> {
     ghost label = { if I == 0 then codes "End" else codes "Through" };

@@ -21,7 +21,7 @@ use nano_schema::{
 use std::alloc::{AllocError, Global};
 use std::str::Chars;
 
-struct TermNames<const I: usize> {}
+pub struct TermNames<const I: usize> {}
 
 impl<const I: usize> Label for TermNames<I> {
     ghost label = { if I == 0 then codes "Number" else if I == 1 then codes "Call"
@@ -385,7 +385,7 @@ impl DeRon for Term {
     }
 }
 
-struct ArgumentNames<const I: usize> {}
+pub struct ArgumentNames<const I: usize> {}
 
 impl<const I: usize> Label for ArgumentNames<I> {
     ghost label = { if I == 0 then codes "Plain" else if I == 1 then codes "Named"
@@ -396,7 +396,7 @@ impl<const I: usize> Label for ArgumentNames<I> {
     }
 }
 
-struct ArgumentNamedNames<const I: usize> {}
+pub struct ArgumentNamedNames<const I: usize> {}
 
 impl<const I: usize> Label for ArgumentNamedNames<I> {
     ghost label = { if I == 0 then codes "name" else codes "value" };

@@ -18,7 +18,7 @@ use nano_schema::{
 use std::alloc::{AllocError, Global};
 use std::str::Chars;
 
-struct ClockNames<const I: usize> {}
+pub struct ClockNames<const I: usize> {}
 
 impl<const I: usize> Label for ClockNames<I> {
     ghost label = { if I == 0 then codes "offset" else codes "running" };

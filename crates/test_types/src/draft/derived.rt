@@ -25,7 +25,7 @@ use nano_schema::{
 use std::alloc::{AllocError, Global};
 use std::str::Chars;
 
-struct DraftNames<const I: usize> {}
+pub struct DraftNames<const I: usize> {}
 
 impl<const I: usize> Label for DraftNames<I> {
     ghost label = { if I == 0 then codes "title" else codes "words" };
@@ -36,7 +36,7 @@ impl<const I: usize> Label for DraftNames<I> {
 }
 
 /// The default of `state`.
-struct DraftStateDefault {}
+pub struct DraftStateDefault {}
 
 impl DefaultOf<String> for DraftStateDefault {
     ghost missing = { text (codes "open") };
@@ -166,7 +166,7 @@ impl DeRon for Draft {
     }
 }
 
-struct EditNames<const I: usize> {}
+pub struct EditNames<const I: usize> {}
 
 impl<const I: usize> Label for EditNames<I> {
     ghost label = { if I == 0 then codes "Close" else codes "Add" };
@@ -176,7 +176,7 @@ impl<const I: usize> Label for EditNames<I> {
     }
 }
 
-struct EditAddName {}
+pub struct EditAddName {}
 
 impl Label for EditAddName {
     ghost label = { codes "words" };

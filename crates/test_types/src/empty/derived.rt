@@ -316,7 +316,7 @@ impl DeRon for Count {
     }
 }
 
-struct StepNames<const I: usize> {}
+pub struct StepNames<const I: usize> {}
 
 impl<const I: usize> Label for StepNames<I> {
     ghost label = { if I == 0 then codes "Rest" else if I == 1 then codes "Walk"
@@ -472,7 +472,7 @@ impl DeRon for Step {
     }
 }
 
-struct TripNames<const I: usize> {}
+pub struct TripNames<const I: usize> {}
 
 impl<const I: usize> Label for TripNames<I> {
     ghost label = { if I == 0 then codes "there" else if I == 1 then codes "new"

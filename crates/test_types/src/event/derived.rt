@@ -20,7 +20,7 @@ use nano_schema::{
 use std::alloc::{AllocError, Global};
 use std::str::Chars;
 
-struct EventNames<const I: usize> {}
+pub struct EventNames<const I: usize> {}
 
 impl<const I: usize> Label for EventNames<I> {
     ghost label = { if I == 0 then codes "Stop" else if I == 1 then codes "Move"
@@ -33,7 +33,7 @@ impl<const I: usize> Label for EventNames<I> {
 
 type EventMoveParts = (u32, String);
 
-struct EventSayNames<const I: usize> {}
+pub struct EventSayNames<const I: usize> {}
 
 impl<const I: usize> Label for EventSayNames<I> {
     ghost label = { if I == 0 then codes "text" else codes "times" };

@@ -16,7 +16,7 @@ use nano_schema::{
 };
 use std::alloc::{AllocError, Global};
 
-struct GuessNames<const I: usize> {}
+pub struct GuessNames<const I: usize> {}
 
 impl<const I: usize> Label for GuessNames<I> {
     ghost label = { if I == 0 then codes "Nothing" else if I == 1 then codes "Is"
@@ -36,7 +36,7 @@ type GuessOneOfParts<T> = Vec<T>;
 
 type GuessLikelyParts<T> = (T, u8);
 
-struct GuessBetweenNames<const I: usize> {}
+pub struct GuessBetweenNames<const I: usize> {}
 
 impl<const I: usize> Label for GuessBetweenNames<I> {
     ghost label = { if I == 0 then codes "least" else codes "most" };

@@ -247,7 +247,7 @@ impl DeRon for Seats {
     }
 }
 
-struct HallNames<const I: usize> {}
+pub struct HallNames<const I: usize> {}
 
 impl<const I: usize> Label for HallNames<I> {
     ghost label = { if I == 0 then codes "visits" else if I == 1 then codes "greetings"

@@ -204,7 +204,7 @@ impl OrderedKey for HallName {
     ghost follows = { λ x y. ordered_text.follows x.0 y.0 };
 }
 
-struct RoleNames<const I: usize> {}
+pub struct RoleNames<const I: usize> {}
 
 impl<const I: usize> Label for RoleNames<I> {
     ghost label = { if I == 0 then codes "Guest" else if I == 1 then codes "Member"

@@ -20,7 +20,7 @@ use nano_schema::{
 use std::alloc::{AllocError, Global};
 use std::str::Chars;
 
-struct MeasuresNames<const I: usize> {}
+pub struct MeasuresNames<const I: usize> {}
 
 impl<const I: usize> Label for MeasuresNames<I> {
     ghost label = { if I == 0 then encode_utf8_all (codes "größe")
@@ -123,7 +123,7 @@ impl DeJson for Measures {
     }
 }
 
-struct SkyNames<const I: usize> {}
+pub struct SkyNames<const I: usize> {}
 
 impl<const I: usize> Label for SkyNames<I> {
     ghost label = { if I == 0 then encode_utf8_all (codes "ясно")
@@ -136,7 +136,7 @@ impl<const I: usize> Label for SkyNames<I> {
 
 type SkyCloudedParts = u8;
 
-struct SkyRainName {}
+pub struct SkyRainName {}
 
 impl Label for SkyRainName {
     ghost label = { encode_utf8_all (codes "höhe") };

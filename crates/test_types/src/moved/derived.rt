@@ -26,7 +26,7 @@ use nano_schema::{
 use std::alloc::{AllocError, Global};
 use std::str::Chars;
 
-struct MovedNames<const I: usize> {}
+pub struct MovedNames<const I: usize> {}
 
 impl<const I: usize> Label for MovedNames<I> {
     ghost label = { if I == 0 then codes "host" else if I == 1 then codes "hostname"
@@ -147,7 +147,7 @@ impl DeRon for Moved {
     }
 }
 
-struct ChangeNames<const I: usize> {}
+pub struct ChangeNames<const I: usize> {}
 
 impl<const I: usize> Label for ChangeNames<I> {
     ghost label = { if I == 0 then codes "Started" else codes "Renamed" };
@@ -157,7 +157,7 @@ impl<const I: usize> Label for ChangeNames<I> {
     }
 }
 
-struct ChangeRenamedNames<const I: usize> {}
+pub struct ChangeRenamedNames<const I: usize> {}
 
 impl<const I: usize> Label for ChangeRenamedNames<I> {
     ghost label = { if I == 0 then codes "from" else if I == 1 then codes "old" else codes "to" };

@@ -20,7 +20,7 @@ use nano_schema::{
 use std::alloc::{AllocError, Global};
 use std::str::Chars;
 
-struct NoticeNames<const I: usize> {}
+pub struct NoticeNames<const I: usize> {}
 
 impl<const I: usize> Label for NoticeNames<I> {
     ghost label = { if I == 0 then codes "gone" else if I == 1 then codes "Move"
@@ -33,7 +33,7 @@ impl<const I: usize> Label for NoticeNames<I> {
 
 type NoticeMoveParts = (i32, String);
 
-struct NoticeSayNames<const I: usize> {}
+pub struct NoticeSayNames<const I: usize> {}
 
 impl<const I: usize> Label for NoticeSayNames<I> {
     ghost label = { if I == 0 then codes "text" else codes "times" };

@@ -18,7 +18,7 @@ use nano_schema::{
 use std::alloc::{AllocError, Global};
 use std::str::Chars;
 
-struct ProxyNames<const I: usize> {}
+pub struct ProxyNames<const I: usize> {}
 
 impl<const I: usize> Label for ProxyNames<I> {
     ghost label = { if I == 0 then codes "host" else if I == 1 then codes "hostname"

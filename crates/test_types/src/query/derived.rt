@@ -12,7 +12,7 @@ use nano_schema::{Borrowed, FieldRefs, Label, Optional, Required, Shape, StructS
 use std::alloc::Global;
 use std::str::Chars;
 
-struct QueryNames<const I: usize> {}
+pub struct QueryNames<const I: usize> {}
 
 impl<const I: usize> Label for QueryNames<I> {
     ghost label = { if I == 0 then codes "words" else codes "limit" };

@@ -27,7 +27,7 @@ use nano_schema::{
 use std::alloc::{AllocError, Global};
 use std::str::Chars;
 
-struct RankedNames<const I: usize> {}
+pub struct RankedNames<const I: usize> {}
 
 impl<const I: usize> Label for RankedNames<I> {
     ghost label = { if I == 0 then codes "things" else if I == 1 then codes "others"
@@ -241,7 +241,7 @@ where
     }
 }
 
-struct WantedNames<const I: usize> {}
+pub struct WantedNames<const I: usize> {}
 
 impl<const I: usize> Label for WantedNames<I> {
     ghost label = { if I == 0 then codes "One" else if I == 1 then codes "Between"
@@ -256,7 +256,7 @@ type WantedOneParts<T> = Box<T>;
 
 type WantedBetweenParts<T> = (crate::point::Point, Vec<(T, u8, T)>);
 
-struct WantedGroupNames<const I: usize> {}
+pub struct WantedGroupNames<const I: usize> {}
 
 impl<const I: usize> Label for WantedGroupNames<I> {
     ghost label = { if I == 0 then codes "things" else codes "count" };

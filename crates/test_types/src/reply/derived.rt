@@ -23,7 +23,7 @@ use nano_schema::{
 use std::alloc::{AllocError, Global};
 use std::str::Chars;
 
-struct ReplyNames<const I: usize> {}
+pub struct ReplyNames<const I: usize> {}
 
 impl<const I: usize> Label for ReplyNames<I> {
     ghost label = { if I == 0 then codes "Found" else if I == 1 then codes "Failed"
@@ -38,7 +38,7 @@ type ReplyFoundParts<A> = A;
 
 type ReplyFailedParts<B> = (B, u32);
 
-struct ReplyListedNames<const I: usize> {}
+pub struct ReplyListedNames<const I: usize> {}
 
 impl<const I: usize> Label for ReplyListedNames<I> {
     ghost label = { if I == 0 then codes "items" else codes "next" };

@@ -16,7 +16,7 @@ use nano_schema::{Borrowed, FieldRefs, Label, Optional, Required, Shape, StructS
 use std::alloc::{AllocError, Global};
 use std::str::Chars;
 
-struct ServerNames<const I: usize> {}
+pub struct ServerNames<const I: usize> {}
 
 impl<const I: usize> Label for ServerNames<I> {
     ghost label = { if I == 0 then codes "host" else if I == 1 then codes "port"

@@ -20,7 +20,7 @@ use nano_schema::{
 use std::alloc::{AllocError, Global};
 use std::str::Chars;
 
-struct SignalNames<const I: usize> {}
+pub struct SignalNames<const I: usize> {}
 
 impl<const I: usize> Label for SignalNames<I> {
     ghost label = { if I == 0 then codes "Wait" else if I == 1 then codes "Move"

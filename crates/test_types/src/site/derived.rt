@@ -19,7 +19,7 @@ use nano_schema::{
 use std::alloc::{AllocError, Global};
 use std::str::Chars;
 
-struct SiteNames<const I: usize> {}
+pub struct SiteNames<const I: usize> {}
 
 impl<const I: usize> Label for SiteNames<I> {
     ghost label = { if I == 0 then codes "host" else if I == 1 then codes "port"
@@ -32,7 +32,7 @@ impl<const I: usize> Label for SiteNames<I> {
 }
 
 /// The default of `page`.
-struct SitePageDefault {}
+pub struct SitePageDefault {}
 
 impl DefaultOf<String> for SitePageDefault {
     ghost missing = { text (codes "index") };

@@ -20,7 +20,7 @@ use nano_schema::{
 use std::alloc::{AllocError, Global};
 use std::str::Chars;
 
-struct TaggedNames<const I: usize> {}
+pub struct TaggedNames<const I: usize> {}
 
 impl<const I: usize> Label for TaggedNames<I> {
     ghost label = { if I == 0 then codes "first" else if I == 1 then codes "other"

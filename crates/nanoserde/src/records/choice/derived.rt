@@ -20,7 +20,7 @@ use nano_schema::{
 use std::alloc::{AllocError, Global};
 use std::str::Chars;
 
-struct ChoiceNames<const I: usize> {}
+pub struct ChoiceNames<const I: usize> {}
 
 impl<const I: usize> Label for ChoiceNames<I> {
     ghost label = { if I == 0 then codes "A" else if I == 1 then codes "B" else codes "C" };
@@ -32,7 +32,7 @@ impl<const I: usize> Label for ChoiceNames<I> {
 
 type ChoiceBParts = (i32, String);
 
-struct ChoiceCNames<const I: usize> {}
+pub struct ChoiceCNames<const I: usize> {}
 
 impl<const I: usize> Label for ChoiceCNames<I> {
     ghost label = { if I == 0 then codes "a" else codes "b" };

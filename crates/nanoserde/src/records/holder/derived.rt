@@ -16,7 +16,7 @@ use nano_schema::{Borrowed, FieldRefs, Label, Required, Shape, StructSchema, Val
 use std::alloc::{AllocError, Global};
 use std::str::Chars;
 
-struct HolderName {}
+pub struct HolderName {}
 
 impl Label for HolderName {
     ghost label = { codes "x" };

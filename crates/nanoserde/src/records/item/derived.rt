@@ -16,7 +16,7 @@ use nano_schema::{Borrowed, FieldRefs, Label, Optional, Required, Shape, StructS
 use std::alloc::{AllocError, Global};
 use std::str::Chars;
 
-struct ItemNames<const I: usize> {}
+pub struct ItemNames<const I: usize> {}
 
 impl<const I: usize> Label for ItemNames<I> {
     ghost label = { if I == 0 then codes "value" else codes "note" };
