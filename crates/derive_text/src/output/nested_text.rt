@@ -139,10 +139,10 @@ pub(crate) fn reading<'a>(
     let open = sheet.made(format!(in alloc; "{read}::<nano_levels::Levels, {row}>("));
     let open = sheet.short(open.as_str());
     let mut arguments = Vec::new(alloc);
-    let (levels, left) = if target.is_around() {
-        ("self", "left")
+    let (levels, left, items) = if target.is_around() {
+        ("self", "left", Items::Values)
     } else {
-        ("below", "left - 1")
+        ("below", "left - 1", Items::Patterns)
     };
     for argument in [levels, left, "alloc", "state", "input"] {
         arguments.push(Piece::of(alloc, argument)?)?;
@@ -150,7 +150,7 @@ pub(crate) fn reading<'a>(
     let brackets = Brackets {
         open: open.as_str(),
         close: ")",
-        items: Items::Patterns,
+        items,
         indent: 8,
         before: 14,
         after: 2,

@@ -419,11 +419,7 @@ impl ReadsJson<Stop> for Levels {
         input: &mut Chars<'_>,
     ) -> Result<Stop, DeJsonErr> {
         match nano_json_nested::read_record_json_within::<Levels, StopFields>(
-            self,
-            left,
-            alloc,
-            state,
-            input,
+            self, left, alloc, state, input,
         ) {
             Ok(values) => Ok(Stop::make(values)),
             Err(error) => Err(error),
@@ -512,11 +508,7 @@ impl ReadsRon<Stop> for Levels {
         input: &mut Chars<'_>,
     ) -> Result<Stop, DeRonErr> {
         match nano_ron_nested::read_record_ron_within::<Levels, StopFields>(
-            self,
-            left,
-            alloc,
-            state,
-            input,
+            self, left, alloc, state, input,
         ) {
             Ok(values) => Ok(Stop::make(values)),
             Err(error) => Err(error),
@@ -662,11 +654,7 @@ impl ReadsJson<Way> for Levels {
         input: &mut Chars<'_>,
     ) -> Result<Way, DeJsonErr> {
         match nano_json_nested::read_record_json_within::<Levels, WayFields>(
-            self,
-            left,
-            alloc,
-            state,
-            input,
+            self, left, alloc, state, input,
         ) {
             Ok(values) => Ok(Way::make(values)),
             Err(error) => Err(error),
@@ -755,11 +743,7 @@ impl ReadsRon<Way> for Levels {
         input: &mut Chars<'_>,
     ) -> Result<Way, DeRonErr> {
         match nano_ron_nested::read_record_ron_within::<Levels, WayFields>(
-            self,
-            left,
-            alloc,
-            state,
-            input,
+            self, left, alloc, state, input,
         ) {
             Ok(values) => Ok(Way::make(values)),
             Err(error) => Err(error),

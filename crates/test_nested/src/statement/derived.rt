@@ -516,11 +516,7 @@ impl ReadsJson<Branch> for Levels {
         input: &mut Chars<'_>,
     ) -> Result<Branch, DeJsonErr> {
         match nano_json_nested::read_record_json_within::<Levels, BranchFields>(
-            self,
-            left,
-            alloc,
-            state,
-            input,
+            self, left, alloc, state, input,
         ) {
             Ok(values) => Ok(Branch::make(values)),
             Err(error) => Err(error),
@@ -609,11 +605,7 @@ impl ReadsRon<Branch> for Levels {
         input: &mut Chars<'_>,
     ) -> Result<Branch, DeRonErr> {
         match nano_ron_nested::read_record_ron_within::<Levels, BranchFields>(
-            self,
-            left,
-            alloc,
-            state,
-            input,
+            self, left, alloc, state, input,
         ) {
             Ok(values) => Ok(Branch::make(values)),
             Err(error) => Err(error),

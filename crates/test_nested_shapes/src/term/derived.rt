@@ -660,11 +660,7 @@ impl ReadsJson<Argument> for Levels {
         input: &mut Chars<'_>,
     ) -> Result<Argument, DeJsonErr> {
         match nano_json_nested::read_choice_json_within::<Levels, ArgumentVariants>(
-            self,
-            left,
-            alloc,
-            state,
-            input,
+            self, left, alloc, state, input,
         ) {
             Ok(values) => Ok(Argument::make(values)),
             Err(error) => Err(error),
@@ -786,11 +782,7 @@ impl ReadsRon<Argument> for Levels {
         input: &mut Chars<'_>,
     ) -> Result<Argument, DeRonErr> {
         match nano_ron_nested::read_choice_ron_within::<Levels, ArgumentVariants>(
-            self,
-            left,
-            alloc,
-            state,
-            input,
+            self, left, alloc, state, input,
         ) {
             Ok(values) => Ok(Argument::make(values)),
             Err(error) => Err(error),
