@@ -43,32 +43,15 @@ pub(crate) fn is_rejected<T: DeJson>(
     }
 }
 
-/// All of the text is a value, and so is what is written of it, which is the same value.
-fn comes_back<T: BothJson + PartialEq>(alloc: Global, text: &str) -> bool {
-    let Ok(value) = T::deserialize_json_whole(alloc, text) else {
-        return false;
-    };
-    let Ok(written) = value.serialize_json(alloc) else {
-        return false;
-    };
-    match T::deserialize_json_whole(alloc, written.as_str()) {
-        Ok(read) => read == value,
-        Err(_error) => false,
-    }
-}
-
-/// 128 values one in the other are read, and 129 are too deep, which is reported in this column.
-pub(crate) fn ends_after_128<T: BothJson + PartialEq>(
-    alloc: Global,
-    deep: &Deep,
-    column: usize,
-) -> bool {
+/// 128 values one in the other are read and written back, and 129 are too deep, which is reported in
+/// this column.
+pub(crate) fn ends_after_128<T: BothJson>(alloc: Global, deep: &Deep, column: usize) -> bool {
     let Ok(most) = nested(alloc, deep, 127) else {
         return false;
     };
     let Ok(more) = nested(alloc, deep, 128) else {
         return false;
     };
-    let is_read = comes_back::<T>(alloc, most.as_str());
+    let is_read = is_read_back::<T>(alloc, most.as_str());
     is_read && is_rejected::<T>(alloc, more.as_str(), column, TOO_DEEP)
 }

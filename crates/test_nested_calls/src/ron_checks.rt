@@ -38,7 +38,8 @@ pub(crate) fn is_rejected<T: DeRon>(alloc: Global, text: &str, column: usize, wo
     }
 }
 
-/// All of the text is a value, and so is what is written of it, which is the same value.
+/// All of the text is a value, and so is what is written of it, which is the same value and is written
+/// as the same text.
 fn comes_back<T: BothRon + PartialEq>(alloc: Global, text: &str) -> bool {
     let Ok(value) = T::deserialize_ron_whole(alloc, text) else {
         return false;
@@ -47,7 +48,7 @@ fn comes_back<T: BothRon + PartialEq>(alloc: Global, text: &str) -> bool {
         return false;
     };
     match T::deserialize_ron_whole(alloc, written.as_str()) {
-        Ok(read) => read == value,
+        Ok(read) => read == value && is_read_back::<T>(alloc, written.as_str()),
         Err(_error) => false,
     }
 }
