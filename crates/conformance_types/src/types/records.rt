@@ -17,9 +17,9 @@ use test_nested_derived::{Chain, Expression, Folder, Rule, Tree};
 use test_nested_derived_ron::Menu;
 use test_nested_shapes::{Argument, Node, Term, Trail};
 use test_types::{
-    Change, Clock, Command, Count, Empty, Entry, Event, Greetings, Hall, HallName, Marker, Message,
-    Moved, Notice, Point, Proxy, Reply, Role, Seat, Seats, Server, Signal, Site, Step, Tagged,
-    Trip, UserId, Visits,
+    Cells, Change, Clock, Command, Count, Draft, Edit, Empty, Entry, Event, Greetings, Hall,
+    HallName, Marker, Measures, Message, Moved, Notice, Point, Proxy, Reply, Role, Seat, Seats,
+    Segment, Server, Signal, Site, Sky, Step, Tagged, Trip, UserId, Visits,
 };
 
 /// The names of the types of `of_records`, in the order of its arms.
@@ -132,6 +132,27 @@ pub(crate) fn of_changes(
         Some(4) => of_type::<Trip>(alloc, format, input),
         Some(5) => of_type::<Moved>(alloc, format, input),
         Some(6) => of_type::<Change>(alloc, format, input),
+        _ => of_wide(alloc, format, kind, input),
+    }
+}
+
+/// The names of the types of `of_wide`, in the order of its arms.
+const WIDE_NAMES: &[&str] = &["Segment", "Cells", "Draft", "Edit", "Measures", "Sky"];
+
+/// A type of `test_types` of many parts, with fields that are skipped, or with names beyond ASCII, or another type.
+pub(crate) fn of_wide(
+    alloc: Global,
+    format: Format,
+    kind: &str,
+    input: &[u8],
+) -> Result<Outcome, AllocError> {
+    match place_of(WIDE_NAMES, kind) {
+        Some(0) => of_type::<Segment>(alloc, format, input),
+        Some(1) => of_type::<Cells<i32>>(alloc, format, input),
+        Some(2) => of_type::<Draft>(alloc, format, input),
+        Some(3) => of_type::<Edit>(alloc, format, input),
+        Some(4) => of_bytes_and_json::<Measures>(alloc, format, input),
+        Some(5) => of_bytes_and_json::<Sky>(alloc, format, input),
         _ => of_keys(alloc, format, kind, input),
     }
 }
