@@ -24,6 +24,4 @@ def piece(char, quote):
     if char == quote:
         return "\\" + char
     extends = unicodedata.category(char) in ("Mn", "Me") or ord(char) in EXTEND
-    if extends or not char.isprintable():
-        return f"\\u{{{ord(char):x}}}"
-    return char
+    return f"\\u{{{ord(char):x}}}" if extends or not char.isprintable() else char

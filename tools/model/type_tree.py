@@ -54,7 +54,8 @@ ALIASES = {
     "UserId": "u64", "HallName": "String", "Seat": "(HallName, u16)", "Seats": "BTreeSet<Seat>",
     "Visits": "BTreeMap<UserId, u32>", "Greetings": "HashMap<Role, String>",
     "Point": "(i32, i32, String)", "Entry": "(u64, Option<String>, Point, bool)",
-    "Tagged": "Tagged<i32, String>", "Reply": "Reply<i32, String>", "Cells": "Cells<i32>",
+    "Segment": "(u8, String, Option<u16>, Vec<i32>, bool)", "Reply": "Reply<i32, String>",
+    "Cells": "(i32, Option<i32>, Vec<i32>, (i32, u8), String, (), i64, i32)", "Tagged": "Tagged<i32, String>",
 }
 
 # The types of the tables in docs/FORMATS.md. A field is `name|alias: type`, and its default if it has one. A skipped
@@ -68,11 +69,10 @@ STRUCTS = {
     "Clock": [("offset: i32", -5), ("running: bool", True)], "Folder": ["name: String", "folders: Vec<Folder>"],
     "Proxy": ["host|hostname: String", "port: Option<u16>"], "Chain": ["number: u32", "next: Option<Box<Chain>>"],
     "Marker": [], "Empty": [], "Count": [], "Menu": ["title: String", "entries: BTreeMap<String, Menu>"],
-    "Trip": ["there: Marker", "new: Option<Empty>", "steps: Vec<Step>"],
-    "Hall": ["visits: Visits", "greetings: Greetings", "taken: Seats"],
+    "Trip": ["there: Marker", "new: Option<Empty>", "steps: Vec<Step>"], "Draft": ["title: String", "words: Vec<u32>"],
     "Tagged": ["first: A", "other: Option<B>", "more: Vec<A>", ("times: u32", 1)],
-    "Draft": ["title: String", "words: Vec<u32>"],
     "Measures": ["größe: u32", "長さ|länge: Option<u32>", "weight: u32"],
+    "Hall": ["visits: Visits", "greetings: Greetings", "taken: Seats"],
     "Branch": ["then: Statement", "otherwise: Option<Box<Statement>>"],
     "Widget": ["title: String", ("shortcut: String", "none"), ("width: u16", 80), ("row: i32", -1),
                ("is_open: bool", True), ("entries: Vec<Widget>", ()), ("others: BTreeMap<String, Widget>", ())],
@@ -87,8 +87,8 @@ ENUMS = {
     "Message": ["Hello", "Move(i32, String)", "Wait(u64)", {"Say": ["text: String", "times: u32"]}],
     "Notice": ["gone", "Move(i32, String)", {"said": ["text: String", ("times: u32", 1)]}],
     "Change": ["Started", {"Renamed": ["from|old: String", "to: String"]}],
-    "Edit": ["Close", {"Add": ["words: Vec<u32>"]}], "Sky": ["ясно", "bewölkt(u8)", {"Rain": ["höhe: u16"]}],
-    "Step": [{"Rest": []}, "Walk(u16)", {"Stop": []}], "Role": ["Guest", "Member", "Moderator", "Owner"],
+    "Step": [{"Rest": []}, "Walk(u16)", {"Stop": []}], "Edit": ["Close", {"Add": ["words: Vec<u32>"]}],
+    "Sky": ["ясно", "bewölkt(u8)", {"Rain": ["höhe: u16"]}], "Role": ["Guest", "Member", "Moderator", "Owner"],
     "Reply": ["Found(A)", "Failed(B, u32)", {"Listed": ["items: Vec<A>", "next: Option<B>"]}],
     "Term": ["Number(i64)", "Call(String, Vec<Argument>)", "If(Box<Term>, Box<Term>, Box<Term>)",
              "Repeat(u32, bool, Box<Term>)"],
@@ -101,19 +101,13 @@ ENUMS = {
     "Json": ["Null(())", "Bool(bool)", "U64(u64)", "I64(i64)", "Decimal(decimal)", "Text(String)", "List(Vec<Json>)",
              "Object(entries<String, Json>)"],
 }
-# Tuple structs of more parts than a tuple has.
-PARTS = {
-    "Segment": "u8, String, Option<u16>, Vec<i32>, bool",
-    "Cells": "A, Option<A>, Vec<A>, (A, u8), String, (), i64, Box<A>",
-}
 # These contain themselves; a value of each has at most so many levels, itself being the first.
 NESTED = dict.fromkeys("Chain Expression Folder Json Menu Node Statement Term Trail Tree Widget".split(), 128)
 NESTED["Rule"] = 5
 STRICT = {"Proxy"}  # these are `deny_unknown`
-PARAMETERS = {"Holder": 1, "Tagged": 2, "Reply": 2, "Cells": 1}
-ONLY = dict.fromkeys("Command i128 u128".split(), "bin") | {"Message": "json"} | dict.fromkeys(
-    "Json Measures Sky".split(), "bin json")
-
+PARAMETERS = {"Holder": 1, "Tagged": 2, "Reply": 2}
+ONLY = dict.fromkeys("Json Measures Sky".split(), "bin json") | {"Message": "json"}
+ONLY |= dict.fromkeys("Command i128 u128".split(), "bin")
 NAME = re.compile(r"\s*([A-Za-z]\w*|[()\[\]<>,;]|\d+)")
 CONTAINERS = {"Option": "option", "Vec": "list", "LinkedList": "linked",
               "HashSet": "set", "BTreeSet": "set", "HashMap": "map", "BTreeMap": "map", "entries": "entries"}
@@ -144,8 +138,8 @@ def read(words, given):
     word, rest = words[0], words[1:]
     if word == "(":
         parts, rest = read_list(rest, ")", given)
-        if len(parts) == 1 or len(parts) > 4:
-            raise Unknown("a tuple of two to four parts is known")
+        if len(parts) == 1 or len(parts) > 8:
+            raise Unknown("a tuple of two to four parts is known, and a struct of up to eight")
         return (Type("tuple", parts) if parts else Type("unit")), rest
     if word == "[":
         item, rest = read(rest, given)
@@ -196,11 +190,9 @@ def defined(word, given):
     """The struct or the enum of this name."""
     if word in STRUCTS:
         return struct(STRUCTS[word], given)._replace(strict=word in STRICT)
-    if word in PARTS:
-        return Type("tuple", read_list(NAME.findall(PARTS[word]) + [")"], ")", given)[0])
     if word in ENUMS:
-        kind = "document" if word == "Json" else "enum"
-        return Type(kind, variants=tuple(variant(line, given) for line in ENUMS[word]))
+        variants = tuple(variant(line, given) for line in ENUMS[word])
+        return Type("document" if word == "Json" else "enum", variants=variants)
     raise Unknown(word)
 
 
@@ -218,8 +210,7 @@ def struct(lines, given):
         names, written = line.split(": ")
         name, *aliases = names.split("|")
         kind = "default" if default else "optional" if written.startswith("Option<") else "required"
-        type = read(NAME.findall(written), given)[0]
-        found.append(Field(name, aliases, type, kind, *default or [()]))
+        found.append(Field(name, aliases, read(NAME.findall(written), given)[0], kind, *default or [()]))
     return Type("struct", tuple(field.type for field in found), tuple(found))
 
 

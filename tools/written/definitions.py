@@ -7,6 +7,10 @@ TOKEN = re.compile(
     re.S,
 )
 PATH = re.compile(r"(?:::)?\b(?:nano_\w+|std(?:::[a-z_]\w*)*)::(?=[A-Z])")
+# Types whose values may take memory, but where an `Option` is around them: that has none by default.
+IN_MEMORY = re.compile(
+    r"\b(?:(Option)|String|Vec|LinkedList|HashMap|HashSet|BTreeMap|BTreeSet|Box)\b"
+)
 
 
 # How a module below says where a path begins.
@@ -52,7 +56,8 @@ class Cursor:
             kind, token = self.peek()
             if kind == "attr":
                 self.at += 1
-                for word, text in re.findall(r'(\w+)(?:\s*=\s*"((?:[^"\\]|\\.)*)")?', token):
+                for match in re.finditer(r'(\w+)(?:\s*=\s*"((?:[^"\\]|\\.)*)")?', token):
+                    word, text = match.groups()
                     if word == "alias":
                         found.setdefault("aliases", []).append(text)
                     else:
@@ -77,18 +82,22 @@ class Cursor:
             if depth == 0:
                 return
 
-    def type_text(self, ends=",)}"):
-        """A type, or a type and its bounds, up to one of these tokens, as a module below says it."""
-        depth, text = 0, []
+    def type_tokens(self, ends=",)}"):
+        """The tokens of a type up to one of these, as a module below says it."""
+        depth, tokens = 0, []
         while True:
             token = self.peek()[1]
             if depth == 0 and token in ends:
-                return tidy(" ".join(text))
+                return tokens
             depth += (token in "([<") - (token in ")]>")
-            if token in FROM_BELOW and text[-1:] != ["::"]:
+            if token in FROM_BELOW and tokens[-1:] != ["::"]:
                 token = FROM_BELOW[token]
-            text.append(token)
+            tokens.append(token)
             self.at += 1
+
+    def bound_text(self, ends):
+        """A type and its bounds, up to one of these tokens."""
+        return tidy(" ".join(self.type_tokens(ends)))
 
     def parameters(self):
         """The bounds of the type parameters, if there are any."""
@@ -97,7 +106,7 @@ class Cursor:
         self.take()
         bounds = []
         while self.peek()[1] != ">":
-            bounds.append(self.type_text(",>"))
+            bounds.append(self.bound_text(",>"))
             if self.peek()[1] == ",":
                 self.take()
         self.take(">")
@@ -109,7 +118,7 @@ class Cursor:
         if self.peek()[1] == "where":
             self.take()
             while self.peek()[1] not in "{;":
-                bounds.append(self.type_text(",{;"))
+                bounds.append(self.bound_text(",{;"))
                 if self.peek()[1] == ",":
                     self.take()
         return bounds
@@ -121,13 +130,39 @@ def tidy(text):
     return re.sub(r",([)\]>])", r"\1", text)
 
 
+def path_below(path):
+    """A path as a module below says it."""
+    first, colons, rest = path.partition("::")
+    return tidy(FROM_BELOW.get(first, first) + colons + rest)
+
+
 class Field:
     """A field or a part of the definition: its name, its type, and its attributes."""
 
-    def __init__(self, name, type, attributes):
-        self.name, self.type, self.attributes = name, type, attributes
+    def __init__(self, name, tokens, attributes):
+        self.name, self.attributes = name, attributes
+        self.type, self.is_word = tidy(" ".join(tokens)), len(tokens) == 1
         self.skipped = "skip" in attributes
         self.aliases = attributes.get("aliases", [])
+        self.default = attributes.get("default")
+
+    def default_kind(self):
+        """What its default is: that of its type, a text, a truth value, a path or a number."""
+        if self.default is None:
+            return "type"
+        if self.is_word and self.type == "String":
+            return "text"
+        if self.is_word and self.type == "bool" and self.default in ("true", "false"):
+            return "truth"
+        return "path" if re.match(r"[A-Za-z_]", self.default) else "number"
+
+    def is_in_row(self):
+        """Whether it is read, or is skipped and made as what may take memory or a type stands for."""
+        kind = self.default_kind()
+        if self.skipped and kind == "type":
+            held = IN_MEMORY.search(self.type)
+            return held is not None and held[1] is None
+        return not self.skipped or kind in ("text", "path")
 
 
 def fields_of(cursor, closing):
@@ -138,7 +173,7 @@ def fields_of(cursor, closing):
         if closing == "}":
             name = cursor.take()
             cursor.take(":")
-        fields.append(Field(name, cursor.type_text(), attributes))
+        fields.append(Field(name, cursor.type_tokens(), attributes))
         if cursor.peek()[1] == ",":
             cursor.take()
     cursor.take(closing)
