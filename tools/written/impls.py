@@ -4,30 +4,61 @@ import re
 from .definitions import Differs, same, tidy
 
 
+# A text in code, and what is cited of a type of names: the type, and the number of a name.
+TEXT = r'"((?:[^"\\]|\\.)*)"'
+LABEL = r"\w+(?:<\d+>)?"
+
+
+def label_of(names):
+    """The label of names by their numbers, of which the last one has every later number, too."""
+    codes = [f'codes "{name}"' for name in names]
+    terms = [code if code.isascii() else f"encode_utf8_all ({code})" for code in codes]
+    cases = [f"if I == {place} then {term} else" for place, term in enumerate(terms[:-1])]
+    return " ".join(cases + terms[-1:])
+
+
+def code_of(names):
+    """The code of names by their numbers, or of the one name."""
+    if len(names) == 1:
+        return f'"{names[0]}"'
+    arms = [f'{place} => "{name}", ' for place, name in enumerate(names[:-1])]
+    return f'nano_schema::name_of!(I, {"".join(arms)}_ => "{names[-1]}")'
+
+
+def in_line(text):
+    """A text without its line breaks."""
+    return re.sub(r"\s+", " ", text).strip()
+
+
 class Impls:
     """The text that derive wrote."""
 
     def __init__(self, text):
         self.text = text
-        self.aliases = {
-            name: tidy(type)
-            for name, type in re.findall(r"^type (\w+)(?:<[^=]*>)? = (.*?);$", text, re.M | re.S)
-        }
+        found = re.findall(r"^type (\w+)(<[^=]*>)? = (.*?);$", text, re.M | re.S)
+        self.aliases = {name: tidy(type) for name, _parameters, type in found}
+        self.parameters = {name: tidy(parameters) for name, parameters, _type in found}
 
     def names(self, of):
         """The names of a type of names, as its code and as its label have them."""
-        head = rf"Label for {of}(?:<I>)? \{{\n    ghost label = \{{(.*?)\}};\n(.*?)\n\}}\n"
-        match = re.search(head, self.text, re.S)
+        head = rf"Label for {of}(?:<I>)? \{{\n    ghost label = \{{(.*?)\}};\n\n"
+        body = r"    fn text\(\) -> &'static str \{\n(.*?)\n    \}\n\}\n"
+        match = re.search(head + body, self.text, re.S)
         if not match:
             raise Differs(f"there is no type `{of}` of names")
         label, code = match.groups()
-        strings = r'"((?:[^"\\]|\\.)*)"'
-        names = re.findall(r"codes " + strings, label)
-        same(f"names of `{of}`", names, re.findall(strings, code))
-        numbers = [str(index) for index in range(len(names) - 1)]
-        same(f"numbers of `{of}`", numbers, re.findall(r"I == (\d+) then", label))
-        same(f"arms of `{of}`", numbers, re.findall(r"^ +(\d+) =>", code, re.M))
+        names = re.findall("codes " + TEXT, label)
+        same(f"label of `{of}`", in_line(label_of(names)), in_line(label))
+        same(f"code of `{of}`", in_line(code_of(names)), in_line(code))
         return names
+
+    def name(self, label):
+        """The name that is cited as a type of names, with a number if that has several."""
+        of, number = re.fullmatch(r"(\w+)(?:<(\d+)>)?", label).groups()
+        names = self.names(of)
+        if (number is None) != (len(names) == 1) or int(number or 0) >= len(names):
+            raise Differs(f"`{label}` is none of {len(names)} names")
+        return names[int(number or 0)]
 
     def block(self, head):
         match = re.search(rf"^impl[^\n]* {head}[^{{]*\{{\n(.*?)^\}}$", self.text, re.M | re.S)
@@ -52,10 +83,11 @@ class Impls:
     def expanded(self, type):
         """A row of fields or variants with its aliases written out."""
         while True:
-            found = re.finditer(r"\b(\w+?(?:Fields|Parts|Values|Variants\d*))\b(?:<[\w,]*>)?", type)
+            found = re.finditer(r"\b(\w+?(?:Fields|Parts|Values|Variants\d*))\b(<[\w,]*>)?", type)
             match = next((match for match in found if match[1] in self.aliases), None)
             if not match:
                 return type
+            same(f"parameters of `{match[1]}`", self.parameters[match[1]], match[2] or "")
             type = type[: match.start()] + self.aliases[match[1]] + type[match.end() :]
 
     def default(self, type, name):
@@ -73,12 +105,10 @@ class Impls:
 
 
 def value(text):
-    """A number, boolean or text of code or of a ghost."""
-    strings = re.findall(r'"((?:[^"\\]|\\.)*)"', text)
+    """A number or a text of code or of a ghost."""
+    strings = re.findall(TEXT, text)
     if strings:
         return strings[0]
-    if re.search(r"\b(true|false)\b", text):
-        return re.search(r"\b(true|false)\b", text)[1]
     digits = re.findall(r"\d+", re.sub(r"\bi\d+|\bu\d+", "", text))
     minus = "neg_" in text or re.search(r"-\s*\d", text) is not None
     return ("-" if minus else "") + (digits[0] if digits else text.strip())

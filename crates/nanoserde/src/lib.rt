@@ -8,8 +8,10 @@
 #![tactic(auto)]
 
 mod convert;
+pub mod defaults;
 pub mod laws;
 mod normal;
+pub mod parts;
 pub mod records;
 mod written;
 

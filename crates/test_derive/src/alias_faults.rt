@@ -114,6 +114,15 @@ struct A {
 ----
 // nanoserde: json
 struct A {
+    // nanoserde: rename = "größe"
+    a: u8,
+    // nanoserde: alias = "größe"
+    b: u8,
+}
+=> 5:27: `"größe"` stands twice
+----
+// nanoserde: json
+struct A {
     // nanoserde: alias = "b\\c"
     a: u8,
 }

@@ -64,6 +64,13 @@ struct A {
 }
 => 3:31: this is in no default
 ----
+// nanoserde: json
+struct A {
+    // nanoserde: default = "ä"
+    a: String,
+}
+=> 3:30: this is in no default: a text is ASCII
+----
 // nanoserde: json ron
 struct A {
     // nanoserde: default =
@@ -89,10 +96,18 @@ struct A<T> {
 pub(crate) const SKIPPED: &str = r#"// nanoserde: json ron
 struct A {
     // nanoserde: skip
-    a: String,
+    a: Box<u8>,
     b: u8,
 }
-=> 3:19: `skip` is for a field whose
+=> 3:19: `skip` is for a field whose type has a default: a box has none, and no tuple
+----
+// nanoserde: json ron
+struct A {
+    // nanoserde: skip
+    a: [String; 2],
+    b: u8,
+}
+=> 3:19: `skip` is for a field whose type has a default
 ----
 // nanoserde: json ron
 struct A {
@@ -100,21 +115,54 @@ struct A {
     a: [Vec<u8>; 2],
     b: u8,
 }
-=> 3:19: `skip` is for a field whose
+=> 3:19: `skip` is for a field whose type has a default
+----
+// nanoserde: json ron
+enum A {
+    B {
+        // nanoserde: skip
+        a: (String, u8),
+        b: u8,
+    },
+}
+=> 4:23: `skip` is for a field whose type has a default
 ----
 // nanoserde: json ron
 struct A {
-    // nanoserde: skip, default = "b"
+    // nanoserde: skip
+    a: Vec<Strng>,
+    b: u8,
+}
+=> 4:12: `Strng` is no type that is known
+----
+// nanoserde: json ron
+struct A {
+    // nanoserde: skip
+    a: Vec<u128>,
+    b: u8,
+}
+=> 4:12: `u128` is a type that has bytes
+----
+// nanoserde: json ron
+struct A {
+    // nanoserde: skip, default = "b\n"
     a: String,
 }
-=> 3:35: `"b"` is no number and no truth
+=> 3:37: this is in no default
 ----
 // nanoserde: json ron
 struct A {
     // nanoserde: skip, default = "b"
     a: u8,
 }
-=> 3:35: `"b"` is no number and no truth
+=> 3:35: `"b"` is no value of the field's type, and no path of a type that stands for one
+----
+// nanoserde: json ron
+struct A {
+    // nanoserde: skip, default = "b::C"
+    a: Box<Strng>,
+}
+=> 4:12: `Strng` is no type that is known
 ----
 // nanoserde: json ron
 struct A {
@@ -134,6 +182,14 @@ struct A {
 struct A<T> {
     // nanoserde: skip
     a: Option<T>,
+    b: T,
+}
+=> 3:19: `skip` is for a field of a type that is known
+----
+// nanoserde: json
+struct A<T> {
+    // nanoserde: skip, default = "b::C"
+    a: Vec<T>,
     b: T,
 }
 => 3:19: `skip` is for a field of a type that is known"#;

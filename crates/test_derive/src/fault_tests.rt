@@ -1,9 +1,10 @@
 //! Sources at fault, and what is said of each.
 
 use crate::alias_faults::ALIASES;
+use crate::attribute_faults::ATTRIBUTES;
 use crate::case_faults::CASES;
 use crate::default_faults::{DEFAULTS, SKIPPED};
-use crate::faults::{ATTRIBUTES, BOUNDS, ITEMS, TYPES};
+use crate::faults::{BOUNDS, ITEMS, TYPES};
 use crate::key_faults::{KEYS, PARTS};
 use crate::mistakes::{COMMENTS, FORMS, OTHERS};
 use crate::outcome::{MODULE, outcome, outcome_above};

@@ -48,8 +48,13 @@ enum A {
 }
 => 2:6: `A` stands twice
 ----
-struct A(u8, u16, u32, u64, u8);
-=> 1:29: `u8` begins a fifth part
+struct A(u8, u16, u32, u64, u8, u16, u32, u64, bool);
+=> 1:48: `bool` begins a ninth part: a struct has one to eight
+----
+enum A {
+    B(u8, u16, u32, u64, bool),
+}
+=> 2:26: `bool` begins a fifth part: a variant has one to four
 ----
 /* x
 => 1:1: this has no end
@@ -134,7 +139,11 @@ struct A<T> {
 ----
 // nanoserde: json
 struct A<T>([T; 2]);
-=> 2:14: `T` is a type parameter within a type"#;
+=> 2:14: `T` is a type parameter within a type
+----
+// nanoserde: json
+struct A(u8, u16, u32, u64, u8, u16, u32, Strng);
+=> 2:43: `Strng` is no type that is known"#;
 
 /// What is asked of a type parameter is no bound, or one that the impls have.
 pub(crate) const BOUNDS: &str = r#"struct A<T: > {
@@ -179,125 +188,3 @@ struct A<T: Clone, U>(T, U)
 where
     U: Ord + nano_json::DeJson;
 => 4:25: `DeJson` is a bound that each impl has"#;
-
-/// An attribute has no meaning where it stands.
-pub(crate) const ATTRIBUTES: &str = r#"// nanoserde: bin jsn
-struct A(u8);
-=> 1:19: `jsn` is no attribute
-----
-// nanoserde: json
-use a::b;
-=> 1:15: `json` stands above no struct
-----
-// nanoserde: skip
-struct A(u8);
-=> 1:15: `skip` stands only above a field
-----
-// nanoserde: json
-struct A(
-    // nanoserde: default
-    u8,
-);
-=> 3:19: `default` stands only above a field
-----
-// nanoserde: json
-enum A {
-    // nanoserde: default
-    B,
-}
-=> 3:19: `default` stands only above a field
-----
-struct A {
-    // nanoserde: skip
-    a: u8,
-}
-=> 2:19: `skip` stands in a type with no
-----
-#[nserde(transparent)]
-struct A(u8);
-=> 1:3: `nserde` is written as a comment
-----
-/// nanoserde: json
-struct A(u8);
-=> 1:1: a doc comment is no attribute
-----
-// nanoserde: transparent bin
-enum A {
-    B,
-}
-=> 1:15: `transparent` is for a struct
-----
-// nanoserde: json
-struct A {
-    // nanoserde: renam = "x"
-    a: u8,
-}
-=> 3:19: `renam` is no
-----
-// nanoserde: json
-struct A {
-    // nanoserde: rename =
-    a: u8,
-}
-=> 3:27: the end of the line
-----
-// nanoserde: json
-struct A {
-    // nanoserde: rename = "x
-    a: u8,
-}
-=> 3:28: this has no end
-----
-struct A {
-    // nanoserde: rename = "x"
-    a: u8,
-}
-=> 2:19: `rename` stands in a type with no
-----
-// nanoserde: ron
-struct A {
-    // nanoserde: rename = "a b"
-    a: u8,
-}
-=> 3:30: this is in no name of RON
-----
-// nanoserde: ron
-struct A {
-    // nanoserde: rename = "true"
-    a: u8,
-}
-=> 3:28: `"true"` is a truth value
-----
-// nanoserde: json
-struct A {
-    // nanoserde: rename = "a\n"
-    a: u8,
-}
-=> 3:30: this is in no name here
-----
-// nanoserde: json
-struct A {
-    // nanoserde: rename = "b"
-    a: u8,
-    b: u8,
-}
-=> 5:5: `b` stands twice
-----
-// nanoserde: json
-struct A {
-    a: u8, // nanoserde: rename = "b"
-    c: u8,
-}
-=> 3:12: an attribute stands on a line of its own
-----
-// nanoserde: json
-enum A {
-    B, // nanoserde: rename = "b"
-    C,
-}
-=> 3:8: an attribute stands on a line of its own
-----
-struct A { // nanoserde: json
-    a: u8,
-}
-=> 1:12: an attribute stands on a line of its own"#;

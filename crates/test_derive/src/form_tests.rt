@@ -1,10 +1,12 @@
 //! What is written of each form of a struct.
 
-use crate::forms::{CITING, DEFAULTED, EMPTY, GENERIC, LARGE, PARTS, PASSED, SKIPPED};
+use crate::default_forms::{DEFAULTED, LARGEST, SKIPPED, SKIPPED_IN_ROW};
+use crate::forms::{CITING, EMPTY, GENERIC, LARGE, PARTS, PASSED};
 use crate::generic_forms::{BOUNDED, HELD, PATHS};
 use crate::key_forms::KEYS;
-use crate::named_forms::{ALIASED, CLASHING, NAMED, STRICT};
+use crate::named_forms::{ALIASED, BEYOND, CLASHING, LONG, NAMED, STRICT};
 use crate::outcome::outcome_above;
+use crate::wide_forms::WIDE;
 use std::alloc::{AllocError, Global};
 use std::process::Abort;
 
@@ -37,10 +39,25 @@ fn forms_are_written(rt: HostRuntime) {
     are_written(&rt, alloc, PARTS);
     are_written(&rt, alloc, GENERIC);
     are_written(&rt, alloc, LARGE);
-    are_written(&rt, alloc, DEFAULTED);
-    are_written(&rt, alloc, SKIPPED);
     are_written(&rt, alloc, CITING);
     are_written(&rt, alloc, PASSED);
+}
+
+#[test]
+fn structs_of_more_parts_than_a_tuple_are_written(rt: HostRuntime) {
+    are_written(&rt, rt.alloc(), WIDE);
+}
+
+#[test]
+fn a_default_is_a_type(rt: HostRuntime) {
+    are_written(&rt, rt.alloc(), DEFAULTED);
+    are_written(&rt, rt.alloc(), LARGEST);
+}
+
+#[test]
+fn a_skipped_field_has_no_name(rt: HostRuntime) {
+    are_written(&rt, rt.alloc(), SKIPPED);
+    are_written(&rt, rt.alloc(), SKIPPED_IN_ROW);
 }
 
 #[test]
@@ -48,6 +65,12 @@ fn forms_with_parameters_and_paths_are_written(rt: HostRuntime) {
     are_written(&rt, rt.alloc(), BOUNDED);
     are_written(&rt, rt.alloc(), HELD);
     are_written(&rt, rt.alloc(), PATHS);
+}
+
+#[test]
+fn names_beyond_ascii_and_long_ones_are_written(rt: HostRuntime) {
+    are_written(&rt, rt.alloc(), BEYOND);
+    are_written(&rt, rt.alloc(), LONG);
 }
 
 #[test]

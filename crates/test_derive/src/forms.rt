@@ -16,14 +16,14 @@ type AFields = Tuple<AValues>;
 =>
         (&self.0, &self.1)
 =>
-        write_record_bin::<Self, AFields>(self, alloc, output)
+        nano_bin_schema::write_record_bin::<Self, AFields>(self, alloc, output)
 =>
             nano_json_schema::Part { of: &self.1 },
         );
 =>
         SerRon::ser_ron(&parts, alloc, d, s)
 =>
-        read_parts_ron::<Self, AValues>(alloc, state, input)
+        nano_ron_schema::read_parts_ron::<Self, AValues>(alloc, state, input)
 "#;
 
 /// A generic type agrees as its parameters do, and names those alone that it has.
@@ -33,7 +33,9 @@ struct A<T> {
     b: Option<T>,
 }
 =>
-    type Values = (T, Option<T>);
+    type Values = <AFields<T> as Shape>::Values;
+=>
+    type Refs = <AFields<T> as Borrowed<'a>>::Refs;
 =>
     ghost agrees = { seen_agrees (pair_agrees T.agrees (option_agrees T.agrees))
 =>
@@ -103,91 +105,12 @@ struct A {
     ) };
 "#;
 
-/// A default stands in the row of its field.
-pub(crate) const DEFAULTED: &str = r#"// nanoserde: json
-struct A {
-    // nanoserde: default
-    a: Option<u8>,
-}
-=>
-type AFields = Defaulted<AName, Option<u8>, TypeDefault>;
-----
-use b::C;
-// nanoserde: ron
-struct A {
-    // nanoserde: default = "C"
-    a: u8,
-}
-=>
-type AFields = Defaulted<AName, u8, C>;
-----
-// nanoserde: json
-struct A {
-    // nanoserde: default = "-5"
-    a: i8,
-}
-=>
-    ghost missing = { number (neg_ℤ (pos 5)) };
-=>
-        Ok(-5)
-=>
-impl JsonDefaultOf<i8> for AADefault {
-----
-// nanoserde: json
-enum A {
-    B {
-        // nanoserde: default = "b"
-        a: String,
-    },
-}
-=>
-    ghost missing = { text (codes "b") };
-=>
-        String::from_str(alloc, "b")
-=>
-type ABParts = Defaulted<ABName, String, ABADefault>;
-"#;
-
-/// A skipped field is in no row.
-pub(crate) const SKIPPED: &str = r#"// nanoserde: json
-struct A {
-    a: u8,
-    // nanoserde: skip
-    b: u8,
-    // nanoserde: skip, default = "7"
-    c: u8,
-}
-=>
-    ghost view = { λ x. x.a };
-=>
-            a,
-            b: std::default::Default::default(),
-            c: 7,
-=>
-        &self.a
-----
-// nanoserde: json
-enum A {
-    B {
-        // nanoserde: skip
-        a: u8,
-        b: u8,
-    },
-}
-=>
-      | B v0 v1 ↦ v1
-=>
-            Self::B { a: _, b } => {
-=>
-            a: std::default::Default::default(),
-"#;
-
 /// Where no field is read and written, the row is that of nothing, and has no name of its own.
 pub(crate) const EMPTY: &str = r#"// nanoserde: bin json ron
 pub struct A;
 =>
 impl StructSchema for A {
-    type Values = ();
+    type Values = <Unit as Shape>::Values;
 
     ghost view = { λ x. tt };
 
@@ -197,16 +120,22 @@ impl StructSchema for A {
     }
 }
 =>
-    type Refs = ();
+    type Refs = <Unit as Borrowed<'a>>::Refs;
 
     ghost values = { ⟦<Unit as Borrowed<'a>>⟧.values };
 =>
-        write_record_bin::<Self, Unit>(self, alloc, output)
+        nano_bin_schema::write_record_bin::<Self, Unit>(self, alloc, output)
+=>
+        nano_bin_schema::read_record_bin::<Self, Unit>(alloc, offset, bytes)
+    }
+}
+
+impl JsonCodec for A {
 ----
 // nanoserde: json
 struct Unit {}
 =>
-        read_record_json::<Self, nano_schema::Unit>(alloc, state, input)
+        nano_json_schema::read_record_json::<Self, nano_schema::Unit>(alloc, state, input)
 ----
 // nanoserde: ron
 struct A {
@@ -273,6 +202,5 @@ pub(in crate::a) struct A {
 
 struct Rc(pub (u8, u8));
 =>
-    ghost label = { if I == 0 then codes "a_b"
-        else codes "c" };
+    ghost label = { if I == 0 then codes "a_b" else codes "c" };
 "#;

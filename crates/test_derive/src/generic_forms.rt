@@ -17,7 +17,7 @@ where
     U: Ord + 'static,
     Vec<T>: super::B,
 {
-    type Values = (T, U);
+    type Values = <AFields<T, U> as Shape>::Values;
 =>
 impl<'a, T: Value + 'a, U: Value + 'a> FieldRefs<'a> for A<T, U>
 where
@@ -91,7 +91,7 @@ fn means_as_bin<T: BinCodec>(value: &T)
     let _value = value;
 }
 =>
-        match read_record_bin::<Self, AFields<T, U>>(alloc, offset, bytes) {
+        match nano_bin_schema::read_record_bin::<Self, AFields<T, U>>(alloc, offset, bytes) {
             Ok(value) => {
                 means_as_bin::<Self>(&value);
                 Ok(value)
@@ -104,7 +104,7 @@ enum A<T> {
     B(Vec<(T, u8)>),
 }
 =>
-        match read_choice_json::<Self, AVariants<T>>(alloc, state, input) {
+        match nano_json_schema::read_choice_json::<Self, AVariants<T>>(alloc, state, input) {
             Ok(value) => {
                 means_as_json::<Self>(&value);
                 Ok(value)
@@ -141,7 +141,11 @@ struct A {
     g: u8,
 }
 =>
-        (crate::b::B, (super::B, Vec<super::super::B>)),
+        Required<ANames<0>, crate::b::B>,
+        (
+            Required<ANames<1>, super::B>,
+            Required<ANames<2>, Vec<super::super::B>>,
+        ),
 =>
     Optional<ANames<3>, super::super::c::B>,
 =>

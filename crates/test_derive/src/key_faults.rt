@@ -11,6 +11,11 @@ struct A(u8);
 struct A(u8);
 => 1:20: `key` is for a type that is compared and hashed
 ----
+// nanoserde: json key
+#[derive(PartialEq, Eq, PartialOrd, Ord, Hash)]
+struct A(u8, u16, u32, u64, bool);
+=> 1:20: `key` is for structs of one to four parts: one of more is no key
+----
 // nanoserde: bin, key
 #[derive(PartialEq, Eq, PartialOrd, Ord, Hash)]
 struct A {

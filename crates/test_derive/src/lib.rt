@@ -4,6 +4,8 @@
 #[cfg(test)]
 mod alias_faults;
 #[cfg(test)]
+mod attribute_faults;
+#[cfg(test)]
 mod case_faults;
 #[cfg(test)]
 mod case_tests;
@@ -15,6 +17,8 @@ mod cycle_faults;
 mod cycle_forms;
 #[cfg(test)]
 mod default_faults;
+#[cfg(test)]
+mod default_forms;
 #[cfg(test)]
 mod fault_tests;
 #[cfg(test)]
@@ -51,3 +55,5 @@ mod nested_tests;
 mod outcome;
 #[cfg(test)]
 mod strict_faults;
+#[cfg(test)]
+mod wide_forms;

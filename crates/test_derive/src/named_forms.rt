@@ -1,7 +1,8 @@
 //! Sources, and lines that are written of each, as in `forms`: names of fields, and of what the
 //! module brings in.
 
-/// Several names have one type, with the number of each; the module brings in what it says.
+/// Several names have one type, with the number of each; the module brings in the types and traits
+/// that it says, and says functions and macros by their paths.
 pub(crate) const NAMED: &str = r#"// nanoserde: json
 struct A {
     a: u8,
@@ -16,18 +17,24 @@ ghost use Rattle.std.specs.Prelude.{codes, ◌==◌, if◌then◌else◌, refl};
 use super::*;
 use nano_json_schema::{
     DeJson, DeJsonState, JsonCodec, JsonResult, JsonShape, Place, SerJson, SerJsonState,
-    read_record_json, take_record_json, write_record_json,
 };
-use nano_schema::{
-    Borrowed, FieldRefs, Label, Optional, Required, Shape, StructSchema, Value, known_record,
-};
+use nano_schema::{Borrowed, FieldRefs, Label, Optional, Required, Shape, StructSchema, Value};
 use std::alloc::{AllocError, Global};
 use std::str::Chars;
 
-struct ANames<const I: usize> {}
+pub struct ANames<const I: usize> {}
+
+impl<const I: usize> Label for ANames<I> {
+    ghost label = { if I == 0 then codes "a" else codes "c" };
+
+    fn text() -> &'static str {
+        nano_schema::name_of!(I, 0 => "a", _ => "c")
+    }
+}
 =>
-            0 => "a",
-            _ => "c",
+        nano_schema::known_record::<Self, AFields>(self);
+=>
+        nano_json_schema::write_record_json::<Self, AFields>(self, alloc, d, s)
 =>
 type AFields = (Required<ANames<0>, u8>, Optional<ANames<1>, String>);
 "#;
@@ -48,13 +55,13 @@ struct A {
 }
 use std::collections::HashMap;
 =>
-            0 => "theFirst",
-            1 => "one",
-            2 => "second",
-            3 => "two",
-            4 => "two_2",
-            5 => "aNameThatIsRatherLong",
-            _ => "the old name of it",
+    ghost label = { if I == 0 then codes "theFirst" else if I == 1 then codes "one"
+        else if I == 2 then codes "second" else if I == 3 then codes "two"
+        else if I == 4 then codes "two_2" else if I == 5 then codes "aNameThatIsRatherLong"
+        else codes "the old name of it" };
+=>
+        nano_schema::name_of!(I, 0 => "theFirst", 1 => "one", 2 => "second", 3 => "two",
+            4 => "two_2", 5 => "aNameThatIsRatherLong", _ => "the old name of it")
 =>
 type AFields = (
     Aliased<ANames<1>, Required<ANames<0>, u8>>,
@@ -71,12 +78,72 @@ struct B<A> {
 }
 use std::collections::LinkedList;
 =>
-struct BNames<const I: usize> {}
+pub struct BNames<const I: usize> {}
 =>
 type BFields<A> = Aliased<
     BNames<1>,
     Required<BNames<0>, Box<Vec<Option<(LinkedList<Vec<Vec<Vec<u8>>>>, (A, A, A))>>>>,
 >;
+"#;
+
+/// A name beyond ASCII is the bytes of its UTF-8.
+pub(crate) const BEYOND: &str = r#"// nanoserde: json
+struct A {
+    // nanoserde: rename = "größe"
+    a: u8,
+    b: u8,
+    // nanoserde: alias = "名前"
+    c: String,
+}
+=>
+ghost use Rattle.std.specs.Prelude.{codes, ◌==◌, if◌then◌else◌, encode_utf8_all, refl};
+=>
+    ghost label = { if I == 0 then encode_utf8_all (codes "größe") else if I == 1 then codes "b"
+        else if I == 2 then codes "c" else encode_utf8_all (codes "名前") };
+
+    fn text() -> &'static str {
+        nano_schema::name_of!(I, 0 => "größe", 1 => "b", 2 => "c", _ => "名前")
+    }
+----
+// nanoserde: json
+enum A {
+    // nanoserde: rename = "größe"
+    B,
+}
+=>
+    ghost label = { encode_utf8_all (codes "größe") };
+
+    fn text() -> &'static str {
+        "größe"
+    }
+"#;
+
+/// A call that is too long for a line has its arguments on a line of their own.
+pub(crate) const LONG: &str = r#"// nanoserde: bin json ron
+struct TheTypeWhoseNameIsSoLongThatCallsAreCut {
+    a: u8,
+}
+=>
+type TheTypeWhoseNameIsSoLongThatCallsAreCutFields = Required<
+    TheTypeWhoseNameIsSoLongThatCallsAreCutName,
+    u8,
+>;
+=>
+        nano_bin_schema::write_record_bin::<Self, TheTypeWhoseNameIsSoLongThatCallsAreCutFields>(
+            self, alloc, output,
+        )
+=>
+        nano_json_schema::read_record_json::<Self, TheTypeWhoseNameIsSoLongThatCallsAreCutFields>(
+            alloc, state, input,
+        )
+=>
+        nano_json_schema::take_record_json::<Self, TheTypeWhoseNameIsSoLongThatCallsAreCutFields>(
+            alloc, place, input, text,
+        )
+=>
+        nano_ron_schema::write_record_ron::<Self, TheTypeWhoseNameIsSoLongThatCallsAreCutFields>(
+            self, alloc, d, s,
+        )
 "#;
 
 /// A struct that denies unknown names is strict in JSON alone.
@@ -90,15 +157,25 @@ ghost use Rattle.nano_json_schema.specs.Structs.{strict_json_of};
 =>
     ghost json = { strict_json_of ⟦<A as StructSchema>⟧.view ⟦<AFields as JsonShape>⟧.codec refl };
 =>
-        write_record_json::<Self, AFields>(self, alloc, d, s)
+pub struct AName {}
+
+impl Label for AName {
+    ghost label = { codes "theFirst" };
+
+    fn text() -> &'static str {
+        "theFirst"
+    }
+}
 =>
-        read_record_json_strict::<Self, AFields>(alloc, state, input)
+        nano_json_schema::write_record_json::<Self, AFields>(self, alloc, d, s)
 =>
-        take_record_json_strict::<Self, AFields>(alloc, place, input, text)
+        nano_json_schema::read_record_json_strict::<Self, AFields>(alloc, state, input)
+=>
+        nano_json_schema::take_record_json_strict::<Self, AFields>(alloc, place, input, text)
 =>
     ghost ron = { ron_of ⟦<A as StructSchema>⟧.view ⟦<AFields as RonShape>⟧.codec refl };
 =>
-        read_record_ron::<Self, AFields>(alloc, state, input)
+        nano_ron_schema::read_record_ron::<Self, AFields>(alloc, state, input)
 ----
 // nanoserde: de_json deny_unknown
 struct B<T> {
@@ -109,16 +186,16 @@ struct C {
     b: u8,
 }
 =>
-        match read_record_json_strict::<Self, BFields<T>>(alloc, state, input) {
+        match nano_json_schema::read_record_json_strict::<Self, BFields<T>>(alloc, state, input) {
             Ok(value) => {
                 means_as_json::<Self>(&value);
 =>
-        read_record_json::<Self, CFields>(alloc, state, input)
+        nano_json_schema::read_record_json::<Self, CFields>(alloc, state, input)
 ----
 // nanoserde: json deny_unknown
 struct D;
 =>
-        read_record_json_strict::<Self, Unit>(alloc, state, input)
+        nano_json_schema::read_record_json_strict::<Self, Unit>(alloc, state, input)
 "#;
 
 /// What has the name of something in the file is said by its path.
@@ -151,7 +228,9 @@ impl nano_schema::Value for Label {
         s: &mut SerJsonState,
     ) -> Result<(), AllocError> {
 =>
-    ghost label = { if I == 0 then codes "nano_schema::Required<"
+    ghost label = { if I == 0 then codes "nano_schema::Required<" else codes "names" };
+=>
+        nano_schema::name_of!(I, 0 => "nano_schema::Required<", _ => "names")
 ----
 // nanoserde: ron
 enum Either {

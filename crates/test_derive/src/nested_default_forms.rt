@@ -7,17 +7,31 @@ struct A {
     a: Vec<A>,
     // nanoserde: default = "7"
     b: u8,
+    // nanoserde: default = "x"
+    c: String,
 }
 =>
-impl DefaultOf<u8> for ABDefault {
-    ghost missing = { whole 7 };
+/// The default of `c`.
+pub struct ACDefault {}
+
+impl DefaultOf<String> for ACDefault {
+    ghost missing = { text (codes "x") };
 =>
 type AFields = (
     Within<Defaulted<ANames<0>, Vec<A>, TypeDefault>>,
-    Other<Defaulted<ANames<1>, u8, ABDefault>>,
+    (
+        Other<Defaulted<ANames<1>, u8, DefaultU8<7>>>,
+        Other<Defaulted<ANames<2>, String, ACDefault>>,
+    ),
 );
 =>
-        append_required(alloc, "b", &value.b, inner, s)?;"#;
+        let c_is_first = Required::<ANames<1>, u8>::append_fields(
+            &&value.b, alloc, b_is_first, inner, s,
+        )?;
+        Required::<ANames<2>, String>::append_fields(&&value.c, alloc, c_is_first, inner, s)?;
+=>
+        nano_ron_nested::append_required(alloc, "b", &value.b, inner, s)?;
+"#;
 
 /// Lines of the files beside the sources.
 pub(crate) const DEFAULT_FILES: &str = r#"// nanoserde: json ron

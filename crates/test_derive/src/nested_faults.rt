@@ -179,6 +179,42 @@ struct A {
 }
 => 4:27: `"c"` stands in a type that contains itself
 ----
+// nanoserde: json
+struct A {
+    // nanoserde: rename = "größe"
+    a: Vec<A>,
+}
+=> 3:28: `"größe"` is beyond ASCII, and stands in a type that contains itself
+----
+// nanoserde: bin
+enum A {
+    // nanoserde: rename = "größe"
+    B(Vec<A>),
+}
+=> 3:28: `"größe"` is beyond ASCII, and stands in a type that contains itself
+----
+// nanoserde: json
+enum A {
+    B {
+        a: Vec<A>,
+        // nanoserde: rename = "名前"
+        b: u8,
+    },
+}
+=> 5:32: `"名前"` is beyond ASCII, and stands in a type that contains itself
+----
+// nanoserde: bin
+struct A(u8, u16, u32, u64, Vec<A>);
+=> 2:8: `A` is a tuple struct that contains itself
+----
+// nanoserde: bin
+struct A {
+    a: Vec<A>,
+    // nanoserde: skip, default = "x"
+    b: String,
+}
+=> 4:19: `skip` stands in a type that contains itself
+----
 // nanoserde: bin
 struct A {
     a: Vec<Self>,

@@ -14,7 +14,7 @@ type ACParts = (
 =>
             Self::C(first, second, third) => {
                 let first = &nano_json_schema::Part { of: first };
-                write_triple_within(alloc, "C", first, second, third, d, s)
+                nano_json_nested::write_triple_within(alloc, "C", first, second, third, d, s)
             }
 =>
                 nano_ron_nested::write_triple_within(alloc, "C", first, second, third, d, s)
@@ -33,7 +33,7 @@ enum A {
     E,
 }
 =>
-        read_choice_within::<Levels, A, AVariants>(self, alloc, offset, bytes)
+        nano_bin_nested::read_choice_within::<Levels, A, AVariants>(self, alloc, offset, bytes)
 =>
     #[cycle(read_b_bin)]
 ----
@@ -51,7 +51,9 @@ enum A {
     F { b: Vec<B> },
 }
 =>
-        match read_choice_json_within::<Levels, AVariants>(self, left, alloc, state, input) {
+        match nano_json_nested::read_choice_json_within::<Levels, AVariants>(
+            self, left, alloc, state, input,
+        ) {
 =>
             ((a_json_content_f.codec b_json).canonical.text d v0.now)) }
 ----
