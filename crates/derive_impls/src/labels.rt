@@ -91,15 +91,21 @@ fn append_numbered(sheet: &mut Sheet, label: &str, names: &[String]) {
     sheet.write(LABELS, &holes);
 }
 
-/// The bytes of a name in a ghost term.
+/// The bytes of a name in a ghost term: one by one where it is beyond ASCII.
 fn codes_of(sheet: &mut Sheet, name: &str) -> String {
     let alloc = sheet.alloc;
-    sheet.import("ghost use Rattle.std.specs.Prelude.{codes};");
     if name.is_ascii() {
+        sheet.import("ghost use Rattle.std.specs.Prelude.{codes};");
         return sheet.made(format!(in alloc; "codes \"{name}\""));
     }
-    sheet.import("ghost use Rattle.std.specs.Prelude.{encode_utf8_all};");
-    sheet.made(format!(in alloc; "encode_utf8_all (codes \"{name}\")"))
+    sheet.import("ghost use Rattle.std.specs.Prelude.{◌∷◌};");
+    sheet.import("ghost use Rattle.std.specs.Prelude.{[]};");
+    let mut text = sheet.made(String::from_str(alloc, "("));
+    for byte in name.as_bytes() {
+        sheet.add_made(&mut text, format!(in alloc; "{byte} ∷ "));
+    }
+    sheet.add(&mut text, "[])");
+    text
 }
 
 /// The names in a ghost term, on each line as many as it has space for. The last one stands for every

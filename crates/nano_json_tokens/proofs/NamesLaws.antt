@@ -1,6 +1,8 @@
 -- What is proved of Names.
 use Rattle.std.specs.Prelude.{◌≡◌, ◌≢◌, ℕ, ◌<◌, not, nat_lt, true, List, [], ◌∷◌, ◌++◌, map, length}
-use Rattle.std.specs.Prelude.{chars, encode_utf8_all, IsUtf8, refl}
+use Rattle.std.specs.Prelude.{encode_utf8_all, IsUtf8, refl}
+use Rattle.std.specs.Char.{encode_utf8}
+use Rattle.std.specs.Str.{chars}
 use Rattle.std.specs.List.{AllByRecursion, list_all, flat_map}
 use Rattle.std.proofs.Common.{sym, ◌∙◌, ap, subst, append_assoc, ne_eqb, arith, inl, inr}
 use Rattle.std.proofs.Math.Utf8.{scalar, scalars}
@@ -19,6 +21,7 @@ use Rattle.nano_json_tokens.specs.Token.{str}
 use Rattle.nano_json_tokens.specs.Written.{stands_as_itself}
 use Rattle.nano_json_tokens.specs.Names.{IsPlainName, is_plain_ascii, is_plain_utf8, is_plain_name}
 use Rattle.nano_json_tokens.specs.Names.{are_plain_names, is_variant_name, quoted_name}
+use Rattle.nano_json_tokens.specs.Names.{character_bytes, bytes_of, characters}
 
 -- ---- a plain name is cut into its token
 
@@ -137,16 +140,31 @@ ascii_name name h =
 
 -- ---- and so are other names of UTF-8
 
+same_bytes : (c : ℕ) → character_bytes c ≡ encode_utf8 c
+unfolding encode_utf8
+same_bytes c = refl
+
+all_same_bytes : (cs : List ℕ) → bytes_of cs ≡ encode_utf8_all cs
+all_same_bytes [] = refl
+all_same_bytes (c ∷ cs) = λ i. same_bytes c i ++ all_same_bytes cs i
+
+same_characters : (bs : List ℕ) → characters bs ≡ chars bs
+unfolding chars
+same_characters [] = refl
+same_characters (b ∷ bs) = refl
+
 utf8_name : (name : List ℕ) → is_plain_utf8 name ≡ true → IsPlainName name
 utf8_name name h =
-    let cs = chars name in
-    let same = bytes_eq (encode_utf8_all cs) name in
+    let cs = characters name in
+    let same = bytes_eq (bytes_of cs) name in
     let itself = list_all stands_as_itself cs in
     let parts = and_parts (scalars cs) (same && itself) h in
     let rest = and_parts same itself parts.1 in
+    let spelled = (bytes_eq-Decides (bytes_of cs) name).0 rest.0 in
     record {
-      utf8 = (cs, (parts.0, (bytes_eq-Decides (encode_utf8_all cs) name).0 rest.0));
-      themselves = rest.1;
+      utf8 = (cs, (parts.0, sym (all_same_bytes cs) ∙ spelled));
+      themselves =
+          subst (λ ds. list_all stands_as_itself ds ≡ true) (same_characters name) rest.1;
     }
 
 pub plain_name : (name : List ℕ) → is_plain_name name ≡ true → IsPlainName name

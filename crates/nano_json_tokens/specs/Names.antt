@@ -1,7 +1,7 @@
 -- Names of fields and variants in JSON.
-use Rattle.std.specs.Prelude.{◌≡◌, ℕ, ◌&&◌, ◌||◌, nat_lt, Bool, true, List, [], ◌∷◌, ◌++◌, length}
-use Rattle.std.specs.Prelude.{IsUtf8, bytes_eq, chars, encode_utf8_all}
-use Rattle.std.specs.Str.{all_scalars}
+use Rattle.std.specs.Prelude.{◌≡◌, ℕ, ◌+◌, ◌/◌, ◌%◌, ◌&&◌, ◌||◌, nat_lt, Bool, true, cond}
+use Rattle.std.specs.Prelude.{List, [], ◌∷◌, ◌++◌, length, IsUtf8, bytes_eq, chars}
+use Rattle.std.specs.Str.{all_scalars, continuation_len, lead_bits, chars_after}
 use Rattle.std.specs.List.{list_all}
 use Rattle.nano_value.specs.Meaning.{usize_bound}
 use Rattle.nano_json_tokens.specs.Written.{stands_as_itself}
@@ -15,11 +15,33 @@ pub record IsPlainName (name : List ℕ) : Type 0 where
 abbrev pub is_plain_ascii : ℕ → Bool
 is_plain_ascii c = nat_lt c 128 && stands_as_itself c
 
+-- a byte of a character that is not its first
+abbrev pub later_byte : ℕ → ℕ
+later_byte c = 128 + c % 64
+
+-- the bytes of a character in UTF-8. This word, and the next two, are std's: those do not compute
+-- where a name is given
+abbrev pub character_bytes : ℕ → List ℕ
+character_bytes c =
+    cond (nat_lt c 128) (c ∷ [])
+    (cond (nat_lt c 2048) ((192 + c / 64) ∷ later_byte c ∷ [])
+    (cond (nat_lt c 65536) ((224 + c / 4096) ∷ later_byte (c / 64) ∷ later_byte c ∷ [])
+    ((240 + c / 262144) ∷ later_byte (c / 4096) ∷ later_byte (c / 64) ∷ later_byte c ∷ [])))
+
+abbrev pub bytes_of : List ℕ → List ℕ
+bytes_of [] = []
+bytes_of (c ∷ cs) = character_bytes c ++ bytes_of cs
+
+-- the characters that bytes spell
+abbrev pub characters : List ℕ → List ℕ
+characters [] = []
+characters (b ∷ bs) = chars_after (continuation_len b) (lead_bits b) bs
+
 -- the bytes are UTF-8, and each character is written as itself
 abbrev pub is_plain_utf8 : List ℕ → Bool
 is_plain_utf8 name =
-    let cs = chars name in
-    all_scalars cs && (bytes_eq (encode_utf8_all cs) name && list_all stands_as_itself cs)
+    let cs = characters name in
+    all_scalars cs && (bytes_eq (bytes_of cs) name && list_all stands_as_itself cs)
 
 -- the same, of which ASCII is seen byte by byte
 abbrev pub is_plain_name : List ℕ → Bool

@@ -1,6 +1,6 @@
 //! Written by derive_files: how the types of the module above are encoded.
 
-ghost use Rattle.std.specs.Prelude.{codes, ◌==◌, if◌then◌else◌, encode_utf8_all, refl};
+ghost use Rattle.std.specs.Prelude.{codes, ◌==◌, if◌then◌else◌, ◌∷◌, [], refl};
 ghost use Rattle.nano_bin_schema.specs.Structs.{bin_of};
 ghost use Rattle.nano_schema.specs.UserTypes.{agreed, LegalVariant};
 ghost use Rattle.nano_json_schema.specs.Structs.{json_of};
@@ -23,9 +23,9 @@ use std::str::Chars;
 pub struct MeasuresNames<const I: usize> {}
 
 impl<const I: usize> Label for MeasuresNames<I> {
-    ghost label = { if I == 0 then encode_utf8_all (codes "größe")
-        else if I == 1 then encode_utf8_all (codes "長さ")
-        else if I == 2 then encode_utf8_all (codes "länge") else codes "weight" };
+    ghost label = { if I == 0 then (103 ∷ 114 ∷ 195 ∷ 182 ∷ 195 ∷ 159 ∷ 101 ∷ [])
+        else if I == 1 then (233 ∷ 149 ∷ 183 ∷ 227 ∷ 129 ∷ 149 ∷ [])
+        else if I == 2 then (108 ∷ 195 ∷ 164 ∷ 110 ∷ 103 ∷ 101 ∷ []) else codes "weight" };
 
     fn text() -> &'static str {
         nano_schema::name_of!(I, 0 => "größe", 1 => "長さ", 2 => "länge", _ => "weight")
@@ -126,8 +126,8 @@ impl DeJson for Measures {
 pub struct SkyNames<const I: usize> {}
 
 impl<const I: usize> Label for SkyNames<I> {
-    ghost label = { if I == 0 then encode_utf8_all (codes "ясно")
-        else if I == 1 then encode_utf8_all (codes "bewölkt") else codes "Rain" };
+    ghost label = { if I == 0 then (209 ∷ 143 ∷ 209 ∷ 129 ∷ 208 ∷ 189 ∷ 208 ∷ 190 ∷ [])
+        else if I == 1 then (98 ∷ 101 ∷ 119 ∷ 195 ∷ 182 ∷ 108 ∷ 107 ∷ 116 ∷ []) else codes "Rain" };
 
     fn text() -> &'static str {
         nano_schema::name_of!(I, 0 => "ясно", 1 => "bewölkt", _ => "Rain")
@@ -139,7 +139,7 @@ type SkyCloudedParts = u8;
 pub struct SkyRainName {}
 
 impl Label for SkyRainName {
-    ghost label = { encode_utf8_all (codes "höhe") };
+    ghost label = { (104 ∷ 195 ∷ 182 ∷ 104 ∷ 101 ∷ []) };
 
     fn text() -> &'static str {
         "höhe"
