@@ -38,6 +38,9 @@ def check(sources):
         except Differs as difference:
             faults += 1
             print(f"{source}: {difference}")
+        except (AttributeError, IndexError, KeyError, TypeError) as error:
+            faults += 1
+            print(f"{source}: something stands in no form that is known here: {error!r}")
     print(f"{len(sources)} files, {types} types, {faults} whose impls are others")
     return faults
 

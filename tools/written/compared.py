@@ -9,10 +9,10 @@ from .nested import compare_levels, compare_nested
 from .structs import compare_struct
 
 FORMATS = {"bin": "Bin", "json": "Json", "ron": "Ron"}
-# Where an impl cites the row of its type: before a trait of rows, and in a call of the library.
+# Where an impl cites the row of its type: before a trait of rows or of a format, and in a call.
+TRAITS = r"\w*Shapes?|\w+Parts|Borrowed\w*|Choices|(?:Bin|Json|Ron)Codec|De(?:Bin|Json|Ron)"
 CITED = re.compile(
-    r"<(?:\w+::)?(\w+)(?:<[\w, ]*>)? as (?:\w+::)?(?:\w*Shapes?|\w+Parts|Borrowed\w*|Choices)\b"
-    r"|::<Self, (?:\w+::)?(\w+)"
+    rf"<(?:\w+::)?(\w+)(?:<[\w, ]*>)? as (?:\w+::)?(?:{TRAITS})\b|::<Self, (?:\w+::)?(\w+)"
 )
 
 

@@ -7,7 +7,7 @@ TOKEN = re.compile(
     re.S,
 )
 PATH = re.compile(r"(?:::)?\b(?:nano_\w+|std(?:::[a-z_]\w*)*)::(?=[A-Z])")
-# Types whose values may take memory, but where an `Option` is around them: that has none by default.
+# Types whose values may take memory, and the one in which none of them is by default.
 IN_MEMORY = re.compile(
     r"\b(?:(Option)|String|Vec|LinkedList|HashMap|HashSet|BTreeMap|BTreeSet|Box)\b"
 )
@@ -157,7 +157,7 @@ class Field:
         return "path" if re.match(r"[A-Za-z_]", self.default) else "number"
 
     def is_in_row(self):
-        """Whether it is read, or is skipped and made as what may take memory or a type stands for."""
+        """Whether it is read, or is skipped and made as what takes memory or a type stands for."""
         kind = self.default_kind()
         if self.skipped and kind == "type":
             held = IN_MEMORY.search(self.type)
@@ -229,7 +229,7 @@ def words_of(name, of_variant):
 
 
 def renamed(name, case, of_variant):
-    """The name in a case of serde's, whose field names are in snake case and variants in Pascal's."""
+    """The name in a case of serde's, of a field in snake case or a variant in Pascal's."""
     words = words_of(name, of_variant)
     capital = lambda word: word[:1].upper() + word[1:]
     pascal = name if of_variant else "".join(capital(word) for word in words)

@@ -1,15 +1,18 @@
-"""Definitions that are drawn: a struct, a tuple struct, an enum and a type that contains itself in each file."""
+"""Definitions that are drawn: a struct, a tuple struct, an enum and a nested type in each file."""
 
 TYPES = [
     "u8",
     "u16",
     "u32",
     "u64",
+    "usize",
     "i8",
+    "i16",
     "i32",
     "i64",
     "bool",
     "String",
+    "std::string::String",
     "Vec<u8>",
     "Vec<String>",
     "Option<u16>",
@@ -27,6 +30,16 @@ TYPES = [
     "Option<super::c::C>",
     "(super::super::d::D, self::super::c::C)",
 ]
+# Types that have bytes alone.
+OF_BYTES = ["u128", "i128"]
+# Types that take memory, and others of which a skipped field is made only as what it is given.
+IN_MEMORY = ["String", "std::string::String", "Vec<u8>", "Vec<String>", "BTreeMap<String, u32>"]
+NOT_MADE = ["Box<i32>", "(u8, String)"]
+# Paths of types that stand for defaults.
+PATHS = ["crate::b::Start", "self::Start", "super::c::Start", "super::super::d::Start"]
+# How names begin that are given, and those of aliases: in RON, and where a type is not in RON.
+LETTERS_OF_RON = ("xyz", "abc")
+LETTERS = ("xyzöя長", "abcéж🦀")
 # Types with the parameters A and B, and what may be asked of them.
 GENERIC = [
     "A",
@@ -54,10 +67,10 @@ TRAITS = ["Clone", "PartialEq<u8>", "'static", "super::c::T", "self::super::c::U
 CASES = ["lowercase", "UPPERCASE", "PascalCase", "camelCase", "snake_case", "SCREAMING_SNAKE_CASE"]
 
 
-def drawn_head(draw, end):
+def drawn_head(draw, types, end):
     """The parameters of a type, its bounds, which `end` follows, and the types that it may name."""
     if draw.random() < 0.6:
-        return "", end, TYPES
+        return "", end, types
     parameters, where = [], []
     for name in "AB":
         traits = " + ".join(draw.sample(TRAITS, draw.randrange(1, 3)))
@@ -67,32 +80,53 @@ def drawn_head(draw, end):
     if draw.random() < 0.3:
         where.append("Vec<A>: Clone")
     clause = f" where {', '.join(where)}" if where else ""
-    return f"<{', '.join(parameters)}>", clause + end, TYPES + GENERIC
+    return f"<{', '.join(parameters)}>", clause + end, types + GENERIC
 
 
-def drawn_fields(draw, types, names, in_line):
+def drawn_value(draw, type):
+    """A default that is given: a number, a truth value, a text, or the path of a type."""
+    values = {
+        "u": str(draw.randrange(200)),
+        "i": str(draw.randrange(-100, 100)),
+        "b": draw.choice(["true", "false"]),
+        "S": draw.choice(["some text", ""]),
+    }
+    is_word = type.isalnum() and type[0] in values
+    return values[type[0]] if is_word and draw.random() < 0.8 else draw.choice(PATHS)
+
+
+def drawn_skip(draw, type):
+    """What stands above a field that is skipped."""
+    if type in NOT_MADE or draw.random() < 0.5:
+        return ["skip", f'default = "{drawn_value(draw, type)}"']
+    return ["skip"]
+
+
+def drawn_attributes(draw, name, type, letters):
+    """What stands above a field that is read."""
+    attributes = []
+    if draw.random() < 0.25:
+        attributes.append(f'rename = "{draw.choice(letters[0])}_{name}"')
+    if type != "A" and draw.random() < 0.25:
+        attributes.append(f'default = "{drawn_value(draw, type)}"')
+    elif type != "A" and draw.random() < 0.2:
+        attributes.append("default")
+    if draw.random() < 0.25:
+        olds = draw.sample(letters[1], draw.randrange(1, 3))
+        attributes += [f'alias = "{old}_{name}"' for old in olds]
+    return attributes
+
+
+def drawn_fields(draw, types, names, in_line, letters):
     """Fields, of which each may be skipped."""
     lines = []
     for name in names:
         type = draw.choice(types)
-        attributes = []
-        if draw.random() < 0.25:
-            attributes.append(f'rename = "{draw.choice("xyz")}_{name}"')
-        plain = {
-            "u": str(draw.randrange(200)),
-            "i": str(draw.randrange(-100, 100)),
-            "b": "true",
-            "S": "some text",
-        }
-        if type[0] in plain and "<" not in type and draw.random() < 0.3:
-            attributes.append(f'default = "{plain[type[0]]}"')
-        elif draw.random() < 0.2 and type != "A":
-            attributes.append("default")
-        elif type[:1] in "ui" and draw.random() < 0.2:
-            attributes = ["skip"]
-        if attributes != ["skip"] and draw.random() < 0.25:
-            aliases = [f'alias = "{old}_{name}"' for old in draw.sample("abc", draw.randrange(1, 3))]
-            attributes += aliases
+        if type not in GENERIC and draw.random() < 0.3:
+            type = draw.choice([type, draw.choice(IN_MEMORY)])
+            attributes = drawn_skip(draw, type)
+        else:
+            attributes = drawn_attributes(draw, name, type, letters)
         lines += [f"    // nanoserde: {', '.join(attributes)}"] * bool(attributes) + [
             f"    {in_line}{name}: {type},"
         ]
@@ -102,8 +136,12 @@ def drawn_fields(draw, types, names, in_line):
 def drawn_parts(draw, name, names):
     """The types of so many parts of a type of this name, of which some hold the type itself."""
     held = draw.sample(names, draw.randrange(len(names) + 1))
-    plain = lambda: draw.choice(AROUND).format(draw.choice(PLAIN if draw.random() < 0.7 else COLLECTIONS))
-    return [draw.choice(ITSELF).replace("$", name) if part in held else plain() for part in names]
+    parts = []
+    for part in names:
+        plain = draw.choice(PLAIN if draw.random() < 0.7 else COLLECTIONS)
+        around = draw.choice(AROUND).format(plain)
+        parts.append(draw.choice(ITSELF).replace("$", name) if part in held else around)
+    return parts
 
 
 def drawn_nested_fields(draw, name, names, in_line):
@@ -133,7 +171,7 @@ def drawn_around(draw, name, formats, words, is_enum):
 
 
 def drawn_nested(draw, name, formats, words):
-    """A struct or an enum of this name, with a part that holds the type itself, or a struct that does."""
+    """A struct or an enum of this name, with a part that holds it, or a struct that does."""
     levels = f', levels = "{draw.randrange(1, 129)}"' if draw.random() < 0.3 else ""
     lines = [f"// nanoserde: {formats}{levels}", "#[derive(Drop)]"]
     around, is_struct = [], draw.random() < 0.4
@@ -147,7 +185,8 @@ def drawn_nested(draw, name, formats, words):
     if is_struct:
         fields = drawn_nested_fields(draw, name, draw.sample(words, draw.randrange(5)), "pub ")
         fields += [f"    pub held_{place}: {type}," for place, type in enumerate(held)]
-        return lines + [f"pub struct {name} {{", *fields, f"    pub itself: {itself},", "}", *around]
+        fields.append(f"    pub itself: {itself},")
+        return lines + [f"pub struct {name} {{", *fields, "}", *around]
     in_text = formats != "bin"
     lines += [f"pub enum {name} {{", f"    Itself({itself}),"]
     lines += [f"    Held{place}({type})," for place, type in enumerate(held)]
@@ -166,19 +205,44 @@ def drawn_nested(draw, name, formats, words):
     return lines + ["}", *around]
 
 
+def drawn_variants(draw, types, words, letters):
+    """Variants of an enum, which are named, and hold nothing, parts or fields."""
+    lines = []
+    for name in draw.sample(["Stop", "MoveOn", "Say", "ListAll", "Wait"], draw.randrange(1, 6)):
+        if draw.random() < 0.2:
+            lines.append(f'    // nanoserde: rename = "{draw.choice(letters[0])}_{name}"')
+        kind = draw.randrange(3)
+        if kind == 0:
+            lines.append(f"    {name},")
+        elif kind == 1:
+            parts = ", ".join(draw.choice(types) for _ in range(draw.randrange(1, 5)))
+            lines.append(f"    {name}({parts}),")
+        else:
+            names = draw.sample(words, draw.randrange(5))
+            fields = drawn_fields(draw, types, names, "    ", letters)
+            lines += [f"    {name} {{", *fields, "    },"]
+    return lines
+
+
+def drawn_tuple(draw, types, number):
+    """A tuple struct of one to eight parts."""
+    parameters, end, types = drawn_head(draw, types, ";")
+    parts = ", ".join("pub " + draw.choice(types) for _ in range(draw.randrange(1, 9)))
+    return f"pub struct T{number}{parameters}({parts}){end}"
+
+
 def drawn(draw, number):
     """A file with a newtype, a struct, a tuple struct, an enum and a type that contains itself."""
     formats = " ".join(draw.sample(["bin", "json", "ron"], draw.randrange(1, 4)))
-    case = (
-        f', rename_all = "{draw.choice(CASES)}"'
-        if draw.random() < 0.5 and formats != "bin"
-        else ""
-    )
+    letters = LETTERS_OF_RON if "ron" in formats else LETTERS
+    plain = TYPES + OF_BYTES * (formats == "bin")
+    has_case = draw.random() < 0.5 and formats != "bin"
+    case = f', rename_all = "{draw.choice(CASES)}"' if has_case else ""
     words = ["first", "second_one", "the_third", "x", "last_of_all", "y2"]
     names = draw.sample(words, draw.randrange(7))
     denied = " deny_unknown" if "json" in formats and draw.random() < 0.3 else ""
     is_unit = not names and draw.random() < 0.5
-    parameters, end, types = drawn_head(draw, ";" if is_unit else " {")
+    parameters, end, types = drawn_head(draw, plain, ";" if is_unit else " {")
     lines = [
         "use crate::mode::Mode;",
         "use crate::map::place::{City, Place};",
@@ -190,29 +254,11 @@ def drawn(draw, number):
         "#[derive(Drop)]",
         f"pub struct S{number}{parameters}{end}",
     ]
-    lines += drawn_fields(draw, types, names, "pub ") + ["}"] * (not is_unit)
-    parameters, end, types = drawn_head(draw, ";")
-    parts = ", ".join("pub " + draw.choice(types) for _ in range(draw.randrange(1, 5)))
-    lines += [f"// nanoserde: {formats}", "#[derive(Drop)]"]
-    lines.append(f"pub struct T{number}{parameters}({parts}){end}")
-    parameters, end, types = drawn_head(draw, " {")
+    lines += drawn_fields(draw, types, names, "pub ", letters) + ["}"] * (not is_unit)
+    lines += [f"// nanoserde: {formats}", "#[derive(Drop)]", drawn_tuple(draw, plain, number)]
+    parameters, end, types = drawn_head(draw, plain, " {")
     lines += [f"// nanoserde: {formats}{case}", "#[derive(Drop)]"]
     lines.append(f"pub enum E{number}{parameters}{end}")
-    for name in draw.sample(["Stop", "MoveOn", "Say", "ListAll", "Wait"], draw.randrange(1, 6)):
-        if draw.random() < 0.2:
-            lines.append(f'    // nanoserde: rename = "{name}_again"')
-        kind = draw.randrange(3)
-        if kind == 0:
-            lines.append(f"    {name},")
-        elif kind == 1:
-            lines.append(
-                f"    {name}({', '.join(draw.choice(types) for _ in range(draw.randrange(1, 5)))}),"
-            )
-        else:
-            lines += (
-                [f"    {name} {{"]
-                + drawn_fields(draw, types, draw.sample(words, draw.randrange(5)), "    ")
-                + ["    },"]
-            )
-    lines += ["}", *drawn_nested(draw, f"N{number}", formats, words)]
+    lines += [*drawn_variants(draw, types, words, letters), "}"]
+    lines += drawn_nested(draw, f"N{number}", formats, words)
     return "\n".join(lines + ["", "mod derived;", ""])

@@ -9,12 +9,17 @@ TEXT = r'"((?:[^"\\]|\\.)*)"'
 LABEL = r"\w+(?:<\d+>)?"
 
 
+def codes_of(name):
+    """The bytes of a name in a ghost term: as a text, or one by one if it is beyond ASCII."""
+    listed = "".join(f"{byte} ∷ " for byte in name.encode())
+    return f'codes "{name}"' if name.isascii() else f"({listed}[])"
+
+
 def label_of(names):
     """The label of names by their numbers, of which the last one has every later number, too."""
-    codes = [f'codes "{name}"' for name in names]
-    terms = [code if code.isascii() else f"encode_utf8_all ({code})" for code in codes]
-    cases = [f"if I == {place} then {term} else" for place, term in enumerate(terms[:-1])]
-    return " ".join(cases + terms[-1:])
+    codes = [codes_of(name) for name in names]
+    cases = [f"if I == {place} then {code} else" for place, code in enumerate(codes[:-1])]
+    return " ".join(cases + codes[-1:])
 
 
 def code_of(names):
@@ -47,9 +52,9 @@ class Impls:
         if not match:
             raise Differs(f"there is no type `{of}` of names")
         label, code = match.groups()
-        names = re.findall("codes " + TEXT, label)
-        same(f"label of `{of}`", in_line(label_of(names)), in_line(label))
+        names = re.findall(TEXT, code)
         same(f"code of `{of}`", in_line(code_of(names)), in_line(code))
+        same(f"label of `{of}`", in_line(label_of(names)), in_line(label))
         return names
 
     def name(self, label):

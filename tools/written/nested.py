@@ -44,23 +44,35 @@ def compare_end(impls, name, trait, limit, is_root):
 
 
 def compare_nested(impls, kind, name, content, cycle):
-    """A type that contains itself: names, types and order, and which parts hold one of the cycle."""
+    """A type that contains itself: names, types and order, and which parts hold such a type."""
     if kind == "struct":
         row = without_levels(impls, cycle, content[1], impls.aliases[f"{name}Fields"])
         return compare_fields(impls, name, content[1], row, "")
-    rows = parts_of(impls.expanded(impls.aliases[f"{name}Variants"]))
-    same(f"number of variants of `{name}`", len(content), len(rows))
-    for variant, written in zip(content, rows):
+    compare_chain(impls, name, content, impls.aliases[f"{name}Variants"], cycle)
+    if f"{name}JsonVariants" in impls.aliases:
+        compare_chain(impls, name, content, impls.aliases[f"{name}JsonVariants"], cycle)
+
+
+def compare_chain(impls, name, variants, chain, cycle):
+    """The variants of a type that contains itself, in every format or in JSON."""
+    rows = parts_of(impls.expanded(chain))
+    same(f"number of variants of `{name}`", len(variants), len(rows))
+    for variant, written in zip(variants, rows):
         compare_nested_variant(impls, name, variant, written, cycle)
 
 
 def compare_nested_variant(impls, owner, variant, written, cycle):
-    """A variant of a type that contains itself."""
+    """A variant of a type that contains itself, whose parts are called a tuple in JSON."""
     name, of_variant, shape, fields = variant
-    label, row = re.fullmatch(rf"Variant<({LABEL}),(.*)>", written).groups()
+    match = re.fullmatch(rf"Variant<({LABEL}),(?:Tuple<(.*)>|(.*))>", written)
+    if not match:
+        raise Differs(f"`{written}` is no variant")
+    label, row = match[1], match[2] or match[3]
     same(f"name of `{owner}::{name}`", name_of(name, of_variant, "", True), impls.name(label))
     if shape == "Struct":
-        row = without_levels(impls, cycle, fields, re.fullmatch(r"Struct<(.*)>", row)[1])
+        held = re.fullmatch(r"Struct<(.*)>", row)
+        same(f"content of `{owner}::{name}`", "Struct", "Struct" if held else row)
+        row = without_levels(impls, cycle, fields, held[1])
         compare_fields(impls, f"{owner}::{name}", fields, row, "")
     elif shape != "Unit":
         types = [f"Newtype<{field.type}>" for field in fields]

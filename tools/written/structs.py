@@ -94,7 +94,7 @@ def first_and_others(items):
 
 
 def compare_wide(impls, name):
-    """A struct of more parts than a tuple has is still one in each format of texts, and no record."""
+    """A struct of more parts than a tuple has is one in each format of texts, and no record."""
     for form in ("Json", "Ron"):
         for trait, call in WIDE_CALLS.items():
             trait, call = trait.format(form), call.format(form.lower())

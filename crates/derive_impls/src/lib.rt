@@ -12,6 +12,7 @@ pub mod defaults;
 pub mod fields;
 mod flat;
 mod forms;
+mod ghost_uses;
 mod held;
 mod key_names;
 mod key_terms;

@@ -1,6 +1,7 @@
 //! What is written, line by line. That memory ran out is reported at the end of it, and not at each
 //! step.
 
+use crate::ghost_uses::{Import, append_import};
 use crate::keys::Known;
 use crate::layout::{COLUMNS, start_line, width};
 use crate::names::Names;
@@ -32,25 +33,6 @@ pub struct Sheet {
     pub(crate) keys: Vec<Known>,
     /// Whether there was no memory for a part of it.
     lacks_memory: bool,
-}
-
-/// What brings in ghost names of a module.
-#[derive(Drop)]
-struct Import {
-    /// The line up to the names.
-    module: &'static str,
-    /// The names, each once.
-    names: Vec<&'static str>,
-}
-
-impl Import {
-    /// Adds names, if they are not there yet.
-    fn add(&mut self, names: &'static str) -> Result<(), AllocError> {
-        if !self.names.contains(&names) {
-            self.names.push(names)?;
-        }
-        Ok(())
-    }
 }
 
 impl Sheet {
@@ -161,7 +143,7 @@ impl Sheet {
             self.head(line)?;
         } else if line.starts_with("    fn ") {
             self.signature(line)?;
-        } else if line.starts_with("        nano_") && line.ends_with(')') {
+        } else if is_call(line) {
             self.call(line)?;
         } else if line.starts_with("    ghost ") && line.ends_with(" };") && !line.contains('"') {
             self.member(line)?;
@@ -206,9 +188,13 @@ impl Sheet {
         self.text.push_str(result)
     }
 
-    /// Appends a call with a line for its arguments, which are short.
+    /// Appends a call, or a `match` of one, with a line for its arguments, which are short.
     fn call(&mut self, line: &str) -> Result<(), AllocError> {
-        let (function, arguments) = line.rsplit_once('(').unwrap_or((line, ""));
+        let (call, end) = match line.strip_suffix(" {") {
+            Some(call) => (call, " {"),
+            None => (line, ""),
+        };
+        let (function, arguments) = call.rsplit_once('(').unwrap_or((call, ""));
         self.text.push_str(function)?;
         self.text.push('(')?;
         start_line(&mut self.text, INDENT.saturating_add(5))?;
@@ -216,7 +202,8 @@ impl Sheet {
             .push_str(arguments.strip_suffix(')').unwrap_or(arguments))?;
         self.text.push(',')?;
         start_line(&mut self.text, INDENT.saturating_add(1))?;
-        self.text.push(')')
+        self.text.push(')')?;
+        self.text.push_str(end)
     }
 
     /// Appends a ghost member, in lines of as many columns as there are. A line ends at a space,
@@ -279,25 +266,11 @@ impl Sheet {
 const HEAD: &str =
     "//! Written by derive_files: how the types of the module above are encoded.\n\n";
 
-/// Appends what brings in names of a module, on each line as many as it has space for.
-fn append_import(output: &mut String, import: &Import) -> Result<(), AllocError> {
-    let mut used = 0usize;
-    for names in &import.names {
-        let longer = used.saturating_add(width(*names)).saturating_add(2);
-        if used > 0 && longer.saturating_add(2) <= COLUMNS {
-            output.push_str(", ")?;
-            used = longer;
-        } else {
-            output.push_str(if used > 0 { "};\n" } else { "" })?;
-            output.push_str(import.module)?;
-            output.push_str(".{")?;
-            used = width(import.module)
-                .saturating_add(2)
-                .saturating_add(width(*names));
-        }
-        output.push_str(*names)?;
-    }
-    output.push_str("};\n")
+/// Whether a line is a call of the libraries, or the head of a `match` of one.
+fn is_call(line: &str) -> bool {
+    let call = line.trim_start();
+    let call = call.strip_prefix("match ").unwrap_or(call);
+    call.starts_with("nano_") && (call.ends_with(')') || call.ends_with(") {"))
 }
 
 /// Whether a line may end after a part of a term: no `⟦` is open, and no item of a tuple follows.

@@ -97,24 +97,25 @@ fn first_and_others(
     items: Items,
     (indent, before, after): (usize, usize, usize),
 ) -> Result<Piece, AllocError> {
-    let (Some(first), others) = (texts.first(), texts.get(1..).unwrap_or(&[])) else {
-        return Piece::of(alloc, "()");
-    };
-    let first = Piece::of(alloc, first.as_str())?;
-    if others.is_empty() {
-        return Ok(first);
+    let mut pairs = Piece::of(alloc, "")?;
+    for (level, text) in texts.iter().enumerate().rev() {
+        let first = Piece::of(alloc, text.as_str())?;
+        let inner = indent.saturating_add(level.saturating_mul(4));
+        let brackets = Brackets {
+            open: "(",
+            close: ")",
+            items,
+            indent: inner,
+            before: if level == 0 { before } else { inner },
+            after: if level == 0 { after } else { 1 },
+        };
+        pairs = if level.saturating_add(1) == texts.len() {
+            first
+        } else {
+            list(alloc, brackets, &[first, pairs])?
+        };
     }
-    let inner = indent.saturating_add(4);
-    let others = first_and_others(alloc, others, items, (inner, inner, 1))?;
-    let brackets = Brackets {
-        open: "(",
-        close: ")",
-        items,
-        indent,
-        before,
-        after,
-    };
-    list(alloc, brackets, &[first, others])
+    Ok(pairs)
 }
 
 /// The struct as the tuple of its parts.

@@ -1,7 +1,8 @@
 //! What the module of the impls brings in, so that items are said by their names alone.
 //!
 //! An item whose name the file declares or brings in is said by its path, so that nothing there
-//! stands in for it. Functions and macros are said by their paths, too.
+//! stands in for it. Functions and macros are said by their paths, too, but for those of types that
+//! contain themselves, whose calls are long.
 
 use crate::layout::{Brackets, COLUMNS, Items, Piece, filled, in_line, width};
 use crate::names::Names;
@@ -22,7 +23,7 @@ const MODULES: [&str; 11] = [
     "std::str",
 ];
 
-/// An item that two modules have: it is said by its path, as functions and macros are.
+/// An item that two modules have: it is said by its path.
 const SHARED: &str = "Part";
 
 /// What brings in items of a module.
@@ -93,7 +94,7 @@ impl Use {
     /// Brings in the item whose name a text begins with, and says whether its name is free for it.
     fn brings(&mut self, alloc: Global, names: &mut Names, text: &str) -> Result<bool, AllocError> {
         let name = first_word(text);
-        if name == SHARED || name.starts_with(|c: char| c.is_ascii_lowercase()) {
+        if name == SHARED || self.is_called(name) {
             return Ok(false);
         }
         for known in &self.names {
@@ -106,6 +107,12 @@ impl Use {
         }
         self.names.push(String::from_str(alloc, name)?)?;
         Ok(true)
+    }
+
+    /// Whether a name is that of a function or a macro which is said by its path: each is, but those
+    /// for types that contain themselves.
+    fn is_called(&self, name: &str) -> bool {
+        name.starts_with(|c: char| c.is_ascii_lowercase()) && !self.module.ends_with("_nested")
     }
 
     /// The line that brings the items in, or lines where it is too long.

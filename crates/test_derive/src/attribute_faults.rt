@@ -111,7 +111,7 @@ struct A {
 ----
 // nanoserde: json
 enum A {
-    // nanoserde: rename = "a	b"
+    // nanoserde: rename = "a\\b"
     B,
 }
 => 3:30: this is in no name here
@@ -142,3 +142,11 @@ struct A { // nanoserde: json
     a: u8,
 }
 => 1:12: an attribute stands on a line of its own"#;
+
+/// A name has a control character, which no raw text has.
+pub(crate) const CONTROL: &str = "// nanoserde: json
+enum A {
+    // nanoserde: rename = \"größe\tb\"
+    B,
+}
+=> 3:34: this is in no name here: a name needs no escape in JSON";

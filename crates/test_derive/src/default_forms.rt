@@ -110,7 +110,7 @@ type AFields = (
 );
 "#;
 
-/// A skipped field is in no row.
+/// A skipped field whose default takes no memory is in no row.
 pub(crate) const SKIPPED: &str = r#"// nanoserde: json
 struct A {
     a: u8,

@@ -1,7 +1,7 @@
 //! Sources at fault, and what is said of each.
 
 use crate::alias_faults::ALIASES;
-use crate::attribute_faults::ATTRIBUTES;
+use crate::attribute_faults::{ATTRIBUTES, CONTROL};
 use crate::case_faults::CASES;
 use crate::default_faults::{DEFAULTS, SKIPPED};
 use crate::faults::{BOUNDS, ITEMS, TYPES};
@@ -47,6 +47,7 @@ fn bounds_are_those_of_a_type(rt: HostRuntime) {
 #[test]
 fn attributes_stand_where_they_have_a_meaning(rt: HostRuntime) {
     are_reported(&rt, rt.alloc(), ATTRIBUTES);
+    are_reported(&rt, rt.alloc(), CONTROL);
 }
 
 #[test]

@@ -24,6 +24,8 @@ pub struct Server {
     pub offset: i32,
     // nanoserde: skip
     pub hits: u64,
+    // nanoserde: skip, default = \"none\"
+    pub note: String,
     pub words: HashMap<String, Vec<(u8, [u32; 4])>>,
 }
 
@@ -40,14 +42,18 @@ pub struct Plain(pub i32);
 // nanoserde: bin
 struct Triple(u8, u16, BTreeMap<String, u64>);
 
+// nanoserde: json ron
+struct Five(u8, u16, (), Option<String>, Vec<bool>);
+
 // nanoserde: json, rename_all = \"snake_case\"
 enum Event {
     Stop,
     // nanoserde: rename = \"go on\"
     Move(u32, String),
     Say {
-        text: String,
+        // nanoserde: rename = \"größe\", default = \"7\"
         times: u32,
+        text: String,
     },
 }
 

@@ -86,7 +86,7 @@ type BFields<A> = Aliased<
 >;
 "#;
 
-/// A name beyond ASCII is the bytes of its UTF-8.
+/// A name beyond ASCII is the bytes of its UTF-8, one by one.
 pub(crate) const BEYOND: &str = r#"// nanoserde: json
 struct A {
     // nanoserde: rename = "größe"
@@ -96,10 +96,11 @@ struct A {
     c: String,
 }
 =>
-ghost use Rattle.std.specs.Prelude.{codes, ◌==◌, if◌then◌else◌, encode_utf8_all, refl};
+ghost use Rattle.std.specs.Prelude.{codes, ◌==◌, if◌then◌else◌, ◌∷◌, [], refl};
 =>
-    ghost label = { if I == 0 then encode_utf8_all (codes "größe") else if I == 1 then codes "b"
-        else if I == 2 then codes "c" else encode_utf8_all (codes "名前") };
+    ghost label = { if I == 0 then (103 ∷ 114 ∷ 195 ∷ 182 ∷ 195 ∷ 159 ∷ 101 ∷ [])
+        else if I == 1 then codes "b" else if I == 2 then codes "c"
+        else (229 ∷ 144 ∷ 141 ∷ 229 ∷ 137 ∷ 141 ∷ []) };
 
     fn text() -> &'static str {
         nano_schema::name_of!(I, 0 => "größe", 1 => "b", 2 => "c", _ => "名前")
@@ -111,7 +112,9 @@ enum A {
     B,
 }
 =>
-    ghost label = { encode_utf8_all (codes "größe") };
+ghost use Rattle.std.specs.Prelude.{◌∷◌, [], refl};
+=>
+    ghost label = { (103 ∷ 114 ∷ 195 ∷ 182 ∷ 195 ∷ 159 ∷ 101 ∷ []) };
 
     fn text() -> &'static str {
         "größe"

@@ -1,5 +1,4 @@
-//! Tuple structs of more parts than a tuple of Rust has in JSON and RON, and lines that are written of
-//! each, as in `forms`.
+//! Tuple structs of more parts than a tuple has, and lines that are written of each, as in `forms`.
 
 /// A struct of five to eight parts is the first of them and the others.
 pub(crate) const WIDE: &str = r#"// nanoserde: bin json ron

@@ -5,12 +5,15 @@ ghost use Rattle.nano_text.specs.Outcomes.{Appends, AppendsPart};
 ghost use Rattle.nano_schema.specs.UserTypes.{agreed};
 
 use super::*;
-use nano_json_nested::{NestedJson, ReadsJson, WritesJson};
+use nano_json_nested::{
+    NestedJson, ReadsJson, WritesJson, append_optional_within, append_required_within, no_levels,
+    read_record_json_within, rollback_on_error, too_many_levels,
+};
 use nano_json_schema::{
     DeJson, DeJsonErr, DeJsonState, JsonCodec, JsonRefs, SerJson, SerJsonState,
 };
 use nano_levels::{Levels, Other, Within};
-use nano_ron_nested::{NestedRon, ReadsRon, WritesRon};
+use nano_ron_nested::{NestedRon, ReadsRon, WritesRon, append_required, read_record_ron_within};
 use nano_ron_schema::{DeRon, DeRonErr, DeRonState, RonCodec, SerRon, SerRonState};
 use nano_schema::{Label, Optional, Required, StructSchema, Value};
 use std::alloc::{AllocError, Global};
@@ -111,7 +114,7 @@ impl GuideJsonWriter {
             inner,
             s,
         )?;
-        let next_is_first = nano_json_nested::append_required_within(
+        let next_is_first = append_required_within(
             alloc,
             "stops",
             &value.stops,
@@ -119,14 +122,7 @@ impl GuideJsonWriter {
             inner,
             s,
         )?;
-        nano_json_nested::append_optional_within(
-            alloc,
-            "next",
-            &value.next,
-            next_is_first,
-            inner,
-            s,
-        )?;
+        append_optional_within(alloc, "next", &value.next, next_is_first, inner, s)?;
         s.st_post(d)
     }
 }
@@ -136,7 +132,7 @@ impl WritesJson for Guide {
     fn write_json(&self, alloc: Global, d: usize, s: &mut SerJsonState) -> Result<(), AllocError> {
         let start = s.out.len();
         let written = GuideJsonWriter::append_record(self, alloc, d, s);
-        nano_json_nested::rollback_on_error(&mut s.out, start, written)
+        rollback_on_error(&mut s.out, start, written)
     }
 }
 
@@ -156,21 +152,15 @@ impl ReadsJson<Guide> for Levels {
         input: &mut Chars<'_>,
     ) -> Result<Guide, DeJsonErr> {
         if left == 0 {
-            return Err(nano_json_nested::too_many_levels(alloc, 64, state));
+            return Err(too_many_levels(alloc, 64, state));
         }
         let Levels::More(below) = self else {
-            return Err(nano_json_nested::no_levels(alloc, state));
+            return Err(no_levels(alloc, state));
         };
         let Some(below) = below.first() else {
-            return Err(nano_json_nested::no_levels(alloc, state));
+            return Err(no_levels(alloc, state));
         };
-        match nano_json_nested::read_record_json_within::<Levels, GuideFields>(
-            below,
-            left - 1,
-            alloc,
-            state,
-            input,
-        ) {
+        match read_record_json_within::<Levels, GuideFields>(below, left - 1, alloc, state, input) {
             Ok(values) => Ok(Guide::make(values)),
             Err(error) => Err(error),
         }
@@ -227,7 +217,7 @@ impl GuideRonWriter {
     {
         s.st_pre()?;
         let inner = d.saturating_add(1);
-        nano_ron_nested::append_required(alloc, "name", &value.name, inner, s)?;
+        append_required(alloc, "name", &value.name, inner, s)?;
         nano_ron_nested::append_required_within(alloc, "stops", &value.stops, inner, s)?;
         nano_ron_nested::append_optional_within(alloc, "next", &value.next, inner, s)?;
         s.st_post(d)
@@ -267,13 +257,7 @@ impl ReadsRon<Guide> for Levels {
         let Some(below) = below.first() else {
             return Err(nano_ron_nested::no_levels(alloc, state));
         };
-        match nano_ron_nested::read_record_ron_within::<Levels, GuideFields>(
-            below,
-            left - 1,
-            alloc,
-            state,
-            input,
-        ) {
+        match read_record_ron_within::<Levels, GuideFields>(below, left - 1, alloc, state, input) {
             Ok(values) => Ok(Guide::make(values)),
             Err(error) => Err(error),
         }
@@ -374,22 +358,8 @@ impl StopJsonWriter {
     {
         s.st_pre()?;
         let inner = d.saturating_add(1);
-        let best_is_first = nano_json_nested::append_required_within(
-            alloc,
-            "ways",
-            &value.ways,
-            true,
-            inner,
-            s,
-        )?;
-        nano_json_nested::append_optional_within(
-            alloc,
-            "best",
-            &value.best,
-            best_is_first,
-            inner,
-            s,
-        )?;
+        let best_is_first = append_required_within(alloc, "ways", &value.ways, true, inner, s)?;
+        append_optional_within(alloc, "best", &value.best, best_is_first, inner, s)?;
         s.st_post(d)
     }
 }
@@ -399,7 +369,7 @@ impl WritesJson for Stop {
     fn write_json(&self, alloc: Global, d: usize, s: &mut SerJsonState) -> Result<(), AllocError> {
         let start = s.out.len();
         let written = StopJsonWriter::append_record(self, alloc, d, s);
-        nano_json_nested::rollback_on_error(&mut s.out, start, written)
+        rollback_on_error(&mut s.out, start, written)
     }
 }
 
@@ -418,9 +388,7 @@ impl ReadsJson<Stop> for Levels {
         state: &mut DeJsonState,
         input: &mut Chars<'_>,
     ) -> Result<Stop, DeJsonErr> {
-        match nano_json_nested::read_record_json_within::<Levels, StopFields>(
-            self, left, alloc, state, input,
-        ) {
+        match read_record_json_within::<Levels, StopFields>(self, left, alloc, state, input) {
             Ok(values) => Ok(Stop::make(values)),
             Err(error) => Err(error),
         }
@@ -507,9 +475,7 @@ impl ReadsRon<Stop> for Levels {
         state: &mut DeRonState,
         input: &mut Chars<'_>,
     ) -> Result<Stop, DeRonErr> {
-        match nano_ron_nested::read_record_ron_within::<Levels, StopFields>(
-            self, left, alloc, state, input,
-        ) {
+        match read_record_ron_within::<Levels, StopFields>(self, left, alloc, state, input) {
             Ok(values) => Ok(Stop::make(values)),
             Err(error) => Err(error),
         }
@@ -617,14 +583,7 @@ impl WayJsonWriter {
             inner,
             s,
         )?;
-        nano_json_nested::append_required_within(
-            alloc,
-            "guide",
-            &value.guide,
-            guide_is_first,
-            inner,
-            s,
-        )?;
+        append_required_within(alloc, "guide", &value.guide, guide_is_first, inner, s)?;
         s.st_post(d)
     }
 }
@@ -634,7 +593,7 @@ impl WritesJson for Way {
     fn write_json(&self, alloc: Global, d: usize, s: &mut SerJsonState) -> Result<(), AllocError> {
         let start = s.out.len();
         let written = WayJsonWriter::append_record(self, alloc, d, s);
-        nano_json_nested::rollback_on_error(&mut s.out, start, written)
+        rollback_on_error(&mut s.out, start, written)
     }
 }
 
@@ -653,9 +612,7 @@ impl ReadsJson<Way> for Levels {
         state: &mut DeJsonState,
         input: &mut Chars<'_>,
     ) -> Result<Way, DeJsonErr> {
-        match nano_json_nested::read_record_json_within::<Levels, WayFields>(
-            self, left, alloc, state, input,
-        ) {
+        match read_record_json_within::<Levels, WayFields>(self, left, alloc, state, input) {
             Ok(values) => Ok(Way::make(values)),
             Err(error) => Err(error),
         }
@@ -712,7 +669,7 @@ impl WayRonWriter {
     {
         s.st_pre()?;
         let inner = d.saturating_add(1);
-        nano_ron_nested::append_required(alloc, "minutes", &value.minutes, inner, s)?;
+        append_required(alloc, "minutes", &value.minutes, inner, s)?;
         nano_ron_nested::append_required_within(alloc, "guide", &value.guide, inner, s)?;
         s.st_post(d)
     }
@@ -742,9 +699,7 @@ impl ReadsRon<Way> for Levels {
         state: &mut DeRonState,
         input: &mut Chars<'_>,
     ) -> Result<Way, DeRonErr> {
-        match nano_ron_nested::read_record_ron_within::<Levels, WayFields>(
-            self, left, alloc, state, input,
-        ) {
+        match read_record_ron_within::<Levels, WayFields>(self, left, alloc, state, input) {
             Ok(values) => Ok(Way::make(values)),
             Err(error) => Err(error),
         }

@@ -5,12 +5,21 @@ ghost use Rattle.nano_schema.specs.UserTypes.{agreed};
 ghost use Rattle.nano_text.specs.Outcomes.{Appends, AppendsPart};
 
 use super::*;
-use nano_bin_nested::{ReadsBin, WritesBin};
+use nano_bin_nested::{
+    ReadsBin, WritesBin, append_part_within, append_variant, append_variant_within, no_memory,
+    read_choice_within, read_record_within,
+};
 use nano_bin_schema::{BinCodec, DeBin, DeBinErr, SerBin};
-use nano_json_nested::{NestedJson, ReadsJson, WritesJson};
+use nano_json_nested::{
+    NestedJson, ReadsJson, WritesJson, append_optional_within, append_required_within, no_levels,
+    read_choice_json_within, read_record_json_within, rollback_on_error, too_deep,
+    write_pair_within, write_variant_within,
+};
 use nano_json_schema::{DeJson, DeJsonErr, DeJsonState, JsonCodec, SerJson, SerJsonState};
 use nano_levels::{Levels, Other, Within};
-use nano_ron_nested::{NestedRon, ReadsRon, WritesRon};
+use nano_ron_nested::{
+    NestedRon, ReadsRon, WritesRon, read_choice_ron_within, read_record_ron_within,
+};
 use nano_ron_schema::{DeRon, DeRonErr, DeRonState, RonCodec, SerRon, SerRonState};
 use nano_schema::{
     Either, EnumSchema, Label, Newtype, Optional, Required, StructSchema, Tuple, Value, Variant,
@@ -114,11 +123,11 @@ impl WritesBin for Statement {
         let start = output.len();
         match self {
             Self::Assign(first, second) => {
-                nano_bin_nested::append_variant(alloc, 0, first, output)?;
+                append_variant(alloc, 0, first, output)?;
                 nano_bin::append_part(alloc, second, output, start)
             }
-            Self::Block(first) => nano_bin_nested::append_variant_within(alloc, 1, first, output),
-            Self::If(first) => nano_bin_nested::append_variant_within(alloc, 2, first, output),
+            Self::Block(first) => append_variant_within(alloc, 1, first, output),
+            Self::If(first) => append_variant_within(alloc, 2, first, output),
         }
     }
 }
@@ -138,14 +147,12 @@ impl ReadsBin<Statement> for Levels {
         bytes: &[u8],
     ) -> Result<Statement, DeBinErr> {
         let Levels::More(below) = self else {
-            return Err(nano_bin_nested::no_memory(*offset, bytes));
+            return Err(no_memory(*offset, bytes));
         };
         let Some(below) = below.first() else {
-            return Err(nano_bin_nested::no_memory(*offset, bytes));
+            return Err(no_memory(*offset, bytes));
         };
-        nano_bin_nested::read_choice_within::<Levels, Statement, StatementVariants>(
-            below, alloc, offset, bytes,
-        )
+        read_choice_within::<Levels, Statement, StatementVariants>(below, alloc, offset, bytes)
     }
 }
 
@@ -197,12 +204,10 @@ impl WritesJson for Statement {
             Self::Assign(first, second) => {
                 let first = &nano_json_schema::Part { of: first };
                 let second = &nano_json_schema::Part { of: second };
-                nano_json_nested::write_pair_within(alloc, "Assign", first, second, d, s)
+                write_pair_within(alloc, "Assign", first, second, d, s)
             }
-            Self::Block(first) => {
-                nano_json_nested::write_variant_within(alloc, "Block", first, d, s)
-            }
-            Self::If(first) => nano_json_nested::write_variant_within(alloc, "If", first, d, s),
+            Self::Block(first) => write_variant_within(alloc, "Block", first, d, s),
+            Self::If(first) => write_variant_within(alloc, "If", first, d, s),
         }
     }
 }
@@ -223,15 +228,15 @@ impl ReadsJson<Statement> for Levels {
         input: &mut Chars<'_>,
     ) -> Result<Statement, DeJsonErr> {
         if left == 0 {
-            return Err(nano_json_nested::too_deep(alloc, state));
+            return Err(too_deep(alloc, state));
         }
         let Levels::More(below) = self else {
-            return Err(nano_json_nested::no_levels(alloc, state));
+            return Err(no_levels(alloc, state));
         };
         let Some(below) = below.first() else {
-            return Err(nano_json_nested::no_levels(alloc, state));
+            return Err(no_levels(alloc, state));
         };
-        match nano_json_nested::read_choice_json_within::<Levels, StatementJsonVariants>(
+        match read_choice_json_within::<Levels, StatementJsonVariants>(
             below,
             left - 1,
             alloc,
@@ -316,7 +321,7 @@ impl ReadsRon<Statement> for Levels {
         let Some(below) = below.first() else {
             return Err(nano_ron_nested::no_levels(alloc, state));
         };
-        match nano_ron_nested::read_choice_ron_within::<Levels, StatementVariants>(
+        match read_choice_ron_within::<Levels, StatementVariants>(
             below,
             left - 1,
             alloc,
@@ -399,7 +404,7 @@ impl WritesBin for Branch {
     fn write_bin(&self, alloc: Global, output: &mut Vec<u8>) -> Result<(), AllocError> {
         let start = output.len();
         WritesBin::write_bin(&self.then, alloc, output)?;
-        nano_bin_nested::append_part_within(alloc, &self.otherwise, output, start)
+        append_part_within(alloc, &self.otherwise, output, start)
     }
 }
 
@@ -417,9 +422,7 @@ impl ReadsBin<Branch> for Levels {
         offset: &mut usize,
         bytes: &[u8],
     ) -> Result<Branch, DeBinErr> {
-        nano_bin_nested::read_record_within::<Levels, Branch, BranchFields>(
-            self, alloc, offset, bytes,
-        )
+        read_record_within::<Levels, Branch, BranchFields>(self, alloc, offset, bytes)
     }
 }
 
@@ -471,7 +474,7 @@ impl BranchJsonWriter {
     {
         s.st_pre()?;
         let inner = d.saturating_add(1);
-        let otherwise_is_first = nano_json_nested::append_required_within(
+        let otherwise_is_first = append_required_within(
             alloc,
             "then",
             &value.then,
@@ -479,7 +482,7 @@ impl BranchJsonWriter {
             inner,
             s,
         )?;
-        nano_json_nested::append_optional_within(
+        append_optional_within(
             alloc,
             "otherwise",
             &value.otherwise,
@@ -496,7 +499,7 @@ impl WritesJson for Branch {
     fn write_json(&self, alloc: Global, d: usize, s: &mut SerJsonState) -> Result<(), AllocError> {
         let start = s.out.len();
         let written = BranchJsonWriter::append_record(self, alloc, d, s);
-        nano_json_nested::rollback_on_error(&mut s.out, start, written)
+        rollback_on_error(&mut s.out, start, written)
     }
 }
 
@@ -515,9 +518,7 @@ impl ReadsJson<Branch> for Levels {
         state: &mut DeJsonState,
         input: &mut Chars<'_>,
     ) -> Result<Branch, DeJsonErr> {
-        match nano_json_nested::read_record_json_within::<Levels, BranchFields>(
-            self, left, alloc, state, input,
-        ) {
+        match read_record_json_within::<Levels, BranchFields>(self, left, alloc, state, input) {
             Ok(values) => Ok(Branch::make(values)),
             Err(error) => Err(error),
         }
@@ -604,9 +605,7 @@ impl ReadsRon<Branch> for Levels {
         state: &mut DeRonState,
         input: &mut Chars<'_>,
     ) -> Result<Branch, DeRonErr> {
-        match nano_ron_nested::read_record_ron_within::<Levels, BranchFields>(
-            self, left, alloc, state, input,
-        ) {
+        match read_record_ron_within::<Levels, BranchFields>(self, left, alloc, state, input) {
             Ok(values) => Ok(Branch::make(values)),
             Err(error) => Err(error),
         }

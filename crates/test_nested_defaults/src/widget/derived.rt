@@ -5,14 +5,17 @@ ghost use Rattle.nano_schema.specs.UserTypes.{text, agreed};
 ghost use Rattle.nano_text.specs.Outcomes.{Appends, AppendsPart};
 
 use super::*;
-use nano_bin_nested::{ReadsBin, WritesBin};
+use nano_bin_nested::{ReadsBin, WritesBin, append_part_within, no_memory, read_record_within};
 use nano_bin_schema::{BinCodec, DeBin, DeBinErr, SerBin};
-use nano_json_nested::{NestedJson, ReadsJson, WritesJson};
+use nano_json_nested::{
+    NestedJson, ReadsJson, WritesJson, append_required_within, no_levels, read_record_json_within,
+    rollback_on_error, too_deep,
+};
 use nano_json_schema::{
     DeJson, DeJsonErr, DeJsonState, JsonCodec, JsonRefs, SerJson, SerJsonState,
 };
 use nano_levels::{Levels, Other, Within};
-use nano_ron_nested::{NestedRon, ReadsRon, WritesRon};
+use nano_ron_nested::{NestedRon, ReadsRon, WritesRon, append_required, read_record_ron_within};
 use nano_ron_schema::{DeRon, DeRonErr, DeRonState, RonCodec, SerRon, SerRonState};
 use nano_schema::{
     DefaultBool, DefaultI32, DefaultOf, DefaultU16, Defaulted, Label, Required, StructSchema,
@@ -128,8 +131,8 @@ impl WritesBin for Widget {
         nano_bin::append_part(alloc, &self.width, output, start)?;
         nano_bin::append_part(alloc, &self.row, output, start)?;
         nano_bin::append_part(alloc, &self.is_open, output, start)?;
-        nano_bin_nested::append_part_within(alloc, &self.entries, output, start)?;
-        nano_bin_nested::append_part_within(alloc, &self.others, output, start)
+        append_part_within(alloc, &self.entries, output, start)?;
+        append_part_within(alloc, &self.others, output, start)
     }
 }
 
@@ -148,14 +151,12 @@ impl ReadsBin<Widget> for Levels {
         bytes: &[u8],
     ) -> Result<Widget, DeBinErr> {
         let Levels::More(below) = self else {
-            return Err(nano_bin_nested::no_memory(*offset, bytes));
+            return Err(no_memory(*offset, bytes));
         };
         let Some(below) = below.first() else {
-            return Err(nano_bin_nested::no_memory(*offset, bytes));
+            return Err(no_memory(*offset, bytes));
         };
-        nano_bin_nested::read_record_within::<Levels, Widget, WidgetFields>(
-            below, alloc, offset, bytes,
-        )
+        read_record_within::<Levels, Widget, WidgetFields>(below, alloc, offset, bytes)
     }
 }
 
@@ -242,7 +243,7 @@ impl WidgetJsonWriter {
             inner,
             s,
         )?;
-        let others_is_first = nano_json_nested::append_required_within(
+        let others_is_first = append_required_within(
             alloc,
             "entries",
             &value.entries,
@@ -250,14 +251,7 @@ impl WidgetJsonWriter {
             inner,
             s,
         )?;
-        nano_json_nested::append_required_within(
-            alloc,
-            "others",
-            &value.others,
-            others_is_first,
-            inner,
-            s,
-        )?;
+        append_required_within(alloc, "others", &value.others, others_is_first, inner, s)?;
         s.st_post(d)
     }
 }
@@ -267,7 +261,7 @@ impl WritesJson for Widget {
     fn write_json(&self, alloc: Global, d: usize, s: &mut SerJsonState) -> Result<(), AllocError> {
         let start = s.out.len();
         let written = WidgetJsonWriter::append_record(self, alloc, d, s);
-        nano_json_nested::rollback_on_error(&mut s.out, start, written)
+        rollback_on_error(&mut s.out, start, written)
     }
 }
 
@@ -287,15 +281,15 @@ impl ReadsJson<Widget> for Levels {
         input: &mut Chars<'_>,
     ) -> Result<Widget, DeJsonErr> {
         if left == 0 {
-            return Err(nano_json_nested::too_deep(alloc, state));
+            return Err(too_deep(alloc, state));
         }
         let Levels::More(below) = self else {
-            return Err(nano_json_nested::no_levels(alloc, state));
+            return Err(no_levels(alloc, state));
         };
         let Some(below) = below.first() else {
-            return Err(nano_json_nested::no_levels(alloc, state));
+            return Err(no_levels(alloc, state));
         };
-        match nano_json_nested::read_record_json_within::<Levels, WidgetFields>(
+        match read_record_json_within::<Levels, WidgetFields>(
             below,
             left - 1,
             alloc,
@@ -358,11 +352,11 @@ impl WidgetRonWriter {
     {
         s.st_pre()?;
         let inner = d.saturating_add(1);
-        nano_ron_nested::append_required(alloc, "title", &value.title, inner, s)?;
-        nano_ron_nested::append_required(alloc, "shortcut", &value.shortcut, inner, s)?;
-        nano_ron_nested::append_required(alloc, "width", &value.width, inner, s)?;
-        nano_ron_nested::append_required(alloc, "row", &value.row, inner, s)?;
-        nano_ron_nested::append_required(alloc, "is_open", &value.is_open, inner, s)?;
+        append_required(alloc, "title", &value.title, inner, s)?;
+        append_required(alloc, "shortcut", &value.shortcut, inner, s)?;
+        append_required(alloc, "width", &value.width, inner, s)?;
+        append_required(alloc, "row", &value.row, inner, s)?;
+        append_required(alloc, "is_open", &value.is_open, inner, s)?;
         nano_ron_nested::append_required_within(alloc, "entries", &value.entries, inner, s)?;
         nano_ron_nested::append_required_within(alloc, "others", &value.others, inner, s)?;
         s.st_post(d)
@@ -402,13 +396,7 @@ impl ReadsRon<Widget> for Levels {
         let Some(below) = below.first() else {
             return Err(nano_ron_nested::no_levels(alloc, state));
         };
-        match nano_ron_nested::read_record_ron_within::<Levels, WidgetFields>(
-            below,
-            left - 1,
-            alloc,
-            state,
-            input,
-        ) {
+        match read_record_ron_within::<Levels, WidgetFields>(below, left - 1, alloc, state, input) {
             Ok(values) => Ok(Widget::make(values)),
             Err(error) => Err(error),
         }

@@ -5,14 +5,17 @@ ghost use Rattle.nano_schema.specs.UserTypes.{agreed};
 ghost use Rattle.nano_text.specs.Outcomes.{Appends, AppendsPart};
 
 use super::*;
-use nano_bin_nested::{ReadsBin, WritesBin};
+use nano_bin_nested::{ReadsBin, WritesBin, append_part_within, no_memory, read_record_within};
 use nano_bin_schema::{BinCodec, DeBin, DeBinErr, SerBin};
-use nano_json_nested::{NestedJson, ReadsJson, WritesJson};
+use nano_json_nested::{
+    NestedJson, ReadsJson, WritesJson, append_optional_within, no_levels, read_record_json_within,
+    rollback_on_error, too_deep,
+};
 use nano_json_schema::{
     DeJson, DeJsonErr, DeJsonState, JsonCodec, JsonRefs, SerJson, SerJsonState,
 };
 use nano_levels::{Levels, Other, Within};
-use nano_ron_nested::{NestedRon, ReadsRon, WritesRon};
+use nano_ron_nested::{NestedRon, ReadsRon, WritesRon, append_required, read_record_ron_within};
 use nano_ron_schema::{DeRon, DeRonErr, DeRonState, RonCodec, SerRon, SerRonState};
 use nano_schema::{Label, Optional, Required, StructSchema, Value};
 use std::alloc::{AllocError, Global};
@@ -75,7 +78,7 @@ impl WritesBin for Chain {
     fn write_bin(&self, alloc: Global, output: &mut Vec<u8>) -> Result<(), AllocError> {
         let start = output.len();
         SerBin::ser_bin(&self.number, alloc, output)?;
-        nano_bin_nested::append_part_within(alloc, &self.next, output, start)
+        append_part_within(alloc, &self.next, output, start)
     }
 }
 
@@ -89,14 +92,12 @@ impl ReadsBin<Chain> for Levels {
     #[cycle(read)]
     fn read_bin(&self, alloc: Global, offset: &mut usize, bytes: &[u8]) -> Result<Chain, DeBinErr> {
         let Levels::More(below) = self else {
-            return Err(nano_bin_nested::no_memory(*offset, bytes));
+            return Err(no_memory(*offset, bytes));
         };
         let Some(below) = below.first() else {
-            return Err(nano_bin_nested::no_memory(*offset, bytes));
+            return Err(no_memory(*offset, bytes));
         };
-        nano_bin_nested::read_record_within::<Levels, Chain, ChainFields>(
-            below, alloc, offset, bytes,
-        )
+        read_record_within::<Levels, Chain, ChainFields>(below, alloc, offset, bytes)
     }
 }
 
@@ -155,14 +156,7 @@ impl ChainJsonWriter {
             inner,
             s,
         )?;
-        nano_json_nested::append_optional_within(
-            alloc,
-            "next",
-            &value.next,
-            next_is_first,
-            inner,
-            s,
-        )?;
+        append_optional_within(alloc, "next", &value.next, next_is_first, inner, s)?;
         s.st_post(d)
     }
 }
@@ -172,7 +166,7 @@ impl WritesJson for Chain {
     fn write_json(&self, alloc: Global, d: usize, s: &mut SerJsonState) -> Result<(), AllocError> {
         let start = s.out.len();
         let written = ChainJsonWriter::append_record(self, alloc, d, s);
-        nano_json_nested::rollback_on_error(&mut s.out, start, written)
+        rollback_on_error(&mut s.out, start, written)
     }
 }
 
@@ -192,21 +186,15 @@ impl ReadsJson<Chain> for Levels {
         input: &mut Chars<'_>,
     ) -> Result<Chain, DeJsonErr> {
         if left == 0 {
-            return Err(nano_json_nested::too_deep(alloc, state));
+            return Err(too_deep(alloc, state));
         }
         let Levels::More(below) = self else {
-            return Err(nano_json_nested::no_levels(alloc, state));
+            return Err(no_levels(alloc, state));
         };
         let Some(below) = below.first() else {
-            return Err(nano_json_nested::no_levels(alloc, state));
+            return Err(no_levels(alloc, state));
         };
-        match nano_json_nested::read_record_json_within::<Levels, ChainFields>(
-            below,
-            left - 1,
-            alloc,
-            state,
-            input,
-        ) {
+        match read_record_json_within::<Levels, ChainFields>(below, left - 1, alloc, state, input) {
             Ok(values) => Ok(Chain::make(values)),
             Err(error) => Err(error),
         }
@@ -263,7 +251,7 @@ impl ChainRonWriter {
     {
         s.st_pre()?;
         let inner = d.saturating_add(1);
-        nano_ron_nested::append_required(alloc, "number", &value.number, inner, s)?;
+        append_required(alloc, "number", &value.number, inner, s)?;
         nano_ron_nested::append_optional_within(alloc, "next", &value.next, inner, s)?;
         s.st_post(d)
     }
@@ -302,13 +290,7 @@ impl ReadsRon<Chain> for Levels {
         let Some(below) = below.first() else {
             return Err(nano_ron_nested::no_levels(alloc, state));
         };
-        match nano_ron_nested::read_record_ron_within::<Levels, ChainFields>(
-            below,
-            left - 1,
-            alloc,
-            state,
-            input,
-        ) {
+        match read_record_ron_within::<Levels, ChainFields>(below, left - 1, alloc, state, input) {
             Ok(values) => Ok(Chain::make(values)),
             Err(error) => Err(error),
         }

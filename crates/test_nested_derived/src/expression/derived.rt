@@ -4,12 +4,18 @@ ghost use Rattle.std.specs.Prelude.{codes, ◌==◌, if◌then◌else◌, refl};
 ghost use Rattle.nano_schema.specs.UserTypes.{agreed};
 
 use super::*;
-use nano_bin_nested::{ReadsBin, WritesBin};
+use nano_bin_nested::{
+    ReadsBin, WritesBin, append_part_within, append_variant, append_variant_within, no_memory,
+    read_choice_within,
+};
 use nano_bin_schema::{BinCodec, DeBin, DeBinErr, SerBin};
-use nano_json_nested::{NestedJson, ReadsJson, WritesJson};
+use nano_json_nested::{
+    NestedJson, ReadsJson, WritesJson, no_levels, read_choice_json_within, too_deep,
+    write_pair_within, write_variant_other, write_variant_within,
+};
 use nano_json_schema::{DeJson, DeJsonErr, DeJsonState, JsonCodec, SerJson, SerJsonState};
 use nano_levels::{Levels, Other, Within};
-use nano_ron_nested::{NestedRon, ReadsRon, WritesRon};
+use nano_ron_nested::{NestedRon, ReadsRon, WritesRon, read_choice_ron_within};
 use nano_ron_schema::{DeRon, DeRonErr, DeRonState, RonCodec, SerRon, SerRonState};
 use nano_schema::{Either, EnumSchema, Label, Newtype, Tuple, Value, Variant};
 use std::alloc::{AllocError, Global};
@@ -111,11 +117,11 @@ impl WritesBin for Expression {
     fn write_bin(&self, alloc: Global, output: &mut Vec<u8>) -> Result<(), AllocError> {
         let start = output.len();
         match self {
-            Self::Number(first) => nano_bin_nested::append_variant(alloc, 0, first, output),
-            Self::Negated(first) => nano_bin_nested::append_variant_within(alloc, 1, first, output),
+            Self::Number(first) => append_variant(alloc, 0, first, output),
+            Self::Negated(first) => append_variant_within(alloc, 1, first, output),
             Self::Sum(first, second) => {
-                nano_bin_nested::append_variant_within(alloc, 2, first, output)?;
-                nano_bin_nested::append_part_within(alloc, second, output, start)
+                append_variant_within(alloc, 2, first, output)?;
+                append_part_within(alloc, second, output, start)
             }
         }
     }
@@ -136,14 +142,12 @@ impl ReadsBin<Expression> for Levels {
         bytes: &[u8],
     ) -> Result<Expression, DeBinErr> {
         let Levels::More(below) = self else {
-            return Err(nano_bin_nested::no_memory(*offset, bytes));
+            return Err(no_memory(*offset, bytes));
         };
         let Some(below) = below.first() else {
-            return Err(nano_bin_nested::no_memory(*offset, bytes));
+            return Err(no_memory(*offset, bytes));
         };
-        nano_bin_nested::read_choice_within::<Levels, Expression, ExpressionVariants>(
-            below, alloc, offset, bytes,
-        )
+        read_choice_within::<Levels, Expression, ExpressionVariants>(below, alloc, offset, bytes)
     }
 }
 
@@ -191,15 +195,9 @@ impl WritesJson for Expression {
     #[tactic(auto, using(crate::proofs::ExpressionJsonCodecsLaws::expression_json_texts))]
     fn write_json(&self, alloc: Global, d: usize, s: &mut SerJsonState) -> Result<(), AllocError> {
         match self {
-            Self::Number(first) => {
-                nano_json_nested::write_variant_other(alloc, "Number", first, d, s)
-            }
-            Self::Negated(first) => {
-                nano_json_nested::write_variant_within(alloc, "Negated", first, d, s)
-            }
-            Self::Sum(first, second) => {
-                nano_json_nested::write_pair_within(alloc, "Sum", first, second, d, s)
-            }
+            Self::Number(first) => write_variant_other(alloc, "Number", first, d, s),
+            Self::Negated(first) => write_variant_within(alloc, "Negated", first, d, s),
+            Self::Sum(first, second) => write_pair_within(alloc, "Sum", first, second, d, s),
         }
     }
 }
@@ -220,15 +218,15 @@ impl ReadsJson<Expression> for Levels {
         input: &mut Chars<'_>,
     ) -> Result<Expression, DeJsonErr> {
         if left == 0 {
-            return Err(nano_json_nested::too_deep(alloc, state));
+            return Err(too_deep(alloc, state));
         }
         let Levels::More(below) = self else {
-            return Err(nano_json_nested::no_levels(alloc, state));
+            return Err(no_levels(alloc, state));
         };
         let Some(below) = below.first() else {
-            return Err(nano_json_nested::no_levels(alloc, state));
+            return Err(no_levels(alloc, state));
         };
-        match nano_json_nested::read_choice_json_within::<Levels, ExpressionJsonVariants>(
+        match read_choice_json_within::<Levels, ExpressionJsonVariants>(
             below,
             left - 1,
             alloc,
@@ -312,7 +310,7 @@ impl ReadsRon<Expression> for Levels {
         let Some(below) = below.first() else {
             return Err(nano_ron_nested::no_levels(alloc, state));
         };
-        match nano_ron_nested::read_choice_ron_within::<Levels, ExpressionVariants>(
+        match read_choice_ron_within::<Levels, ExpressionVariants>(
             below,
             left - 1,
             alloc,

@@ -6,12 +6,18 @@ ghost use Rattle.nano_text.specs.Outcomes.{Appends, AppendsPart, Unchanged};
 ghost use Rattle.nano_json_schema.specs.Variants.{content_text};
 
 use super::*;
-use nano_bin_nested::{ReadsBin, WritesBin};
+use nano_bin_nested::{
+    ReadsBin, WritesBin, append_part_within, append_variant, append_variant_within, no_memory,
+    read_choice_within,
+};
 use nano_bin_schema::{BinCodec, DeBin, DeBinErr, SerBin};
-use nano_json_nested::{NestedJson, ReadsJson, WritesJson};
+use nano_json_nested::{
+    NestedJson, ReadsJson, WritesJson, append_optional_within, append_required_within, no_levels,
+    read_choice_json_within, rollback_on_error, too_many_levels, write_variant_other,
+};
 use nano_json_schema::{DeJson, DeJsonErr, DeJsonState, JsonCodec, SerJson, SerJsonState};
 use nano_levels::{Levels, Other, Within};
-use nano_ron_nested::{NestedRon, ReadsRon, WritesRon};
+use nano_ron_nested::{NestedRon, ReadsRon, WritesRon, read_choice_ron_within};
 use nano_ron_schema::{DeRon, DeRonErr, DeRonState, RonCodec, SerRon, SerRonState};
 use nano_schema::{
     Either, EnumSchema, Label, Newtype, Optional, Required, Struct, Unit, Value, Variant,
@@ -132,16 +138,16 @@ impl WritesBin for Rule {
     fn write_bin(&self, alloc: Global, output: &mut Vec<u8>) -> Result<(), AllocError> {
         let start = output.len();
         match self {
-            Self::Always => nano_bin_nested::append_variant(alloc, 0, &(), output),
-            Self::From(first) => nano_bin_nested::append_variant(alloc, 1, first, output),
+            Self::Always => append_variant(alloc, 0, &(), output),
+            Self::From(first) => append_variant(alloc, 1, first, output),
             Self::When {
                 condition,
                 then,
                 otherwise,
             } => {
-                nano_bin_nested::append_variant_within(alloc, 2, condition, output)?;
-                nano_bin_nested::append_part_within(alloc, then, output, start)?;
-                nano_bin_nested::append_part_within(alloc, otherwise, output, start)
+                append_variant_within(alloc, 2, condition, output)?;
+                append_part_within(alloc, then, output, start)?;
+                append_part_within(alloc, otherwise, output, start)
             }
         }
     }
@@ -157,14 +163,12 @@ impl ReadsBin<Rule> for Levels {
     #[cycle(read)]
     fn read_bin(&self, alloc: Global, offset: &mut usize, bytes: &[u8]) -> Result<Rule, DeBinErr> {
         let Levels::More(below) = self else {
-            return Err(nano_bin_nested::no_memory(*offset, bytes));
+            return Err(no_memory(*offset, bytes));
         };
         let Some(below) = below.first() else {
-            return Err(nano_bin_nested::no_memory(*offset, bytes));
+            return Err(no_memory(*offset, bytes));
         };
-        nano_bin_nested::read_choice_within::<Levels, Rule, RuleVariants>(
-            below, alloc, offset, bytes,
-        )
+        read_choice_within::<Levels, Rule, RuleVariants>(below, alloc, offset, bytes)
     }
 }
 
@@ -221,15 +225,8 @@ impl RuleJsonWriter {
     {
         s.st_pre()?;
         let inner = d.saturating_add(1);
-        let then_is_first = nano_json_nested::append_required_within(
-            alloc,
-            "condition",
-            v0,
-            true,
-            inner,
-            s,
-        )?;
-        let otherwise_is_first = nano_json_nested::append_required_within(
+        let then_is_first = append_required_within(alloc, "condition", v0, true, inner, s)?;
+        let otherwise_is_first = append_required_within(
             alloc,
             "then",
             v1,
@@ -237,14 +234,7 @@ impl RuleJsonWriter {
             inner,
             s,
         )?;
-        nano_json_nested::append_optional_within(
-            alloc,
-            "otherwise",
-            v2,
-            otherwise_is_first,
-            inner,
-            s,
-        )?;
+        append_optional_within(alloc, "otherwise", v2, otherwise_is_first, inner, s)?;
         s.st_post(d)
     }
 
@@ -291,7 +281,7 @@ impl RuleJsonWriter {
     {
         let start = s.out.len();
         let written = Self::append_when(value, v0, v1, v2, alloc, d, s);
-        nano_json_nested::rollback_on_error(&mut s.out, start, written)
+        rollback_on_error(&mut s.out, start, written)
     }
 }
 
@@ -301,7 +291,7 @@ impl WritesJson for Rule {
     fn write_json(&self, alloc: Global, d: usize, s: &mut SerJsonState) -> Result<(), AllocError> {
         match self {
             Self::Always => nano_json_schema::write_unit_variant(alloc, "Always", s),
-            Self::From(first) => nano_json_nested::write_variant_other(alloc, "From", first, d, s),
+            Self::From(first) => write_variant_other(alloc, "From", first, d, s),
             Self::When {
                 condition: v0,
                 then: v1,
@@ -327,15 +317,15 @@ impl ReadsJson<Rule> for Levels {
         input: &mut Chars<'_>,
     ) -> Result<Rule, DeJsonErr> {
         if left == 0 {
-            return Err(nano_json_nested::too_many_levels(alloc, 5, state));
+            return Err(too_many_levels(alloc, 5, state));
         }
         let Levels::More(below) = self else {
-            return Err(nano_json_nested::no_levels(alloc, state));
+            return Err(no_levels(alloc, state));
         };
         let Some(below) = below.first() else {
-            return Err(nano_json_nested::no_levels(alloc, state));
+            return Err(no_levels(alloc, state));
         };
-        match nano_json_nested::read_choice_json_within::<Levels, RuleVariants>(
+        match read_choice_json_within::<Levels, RuleVariants>(
             below,
             left - 1,
             alloc,
@@ -472,13 +462,7 @@ impl ReadsRon<Rule> for Levels {
         let Some(below) = below.first() else {
             return Err(nano_ron_nested::no_levels(alloc, state));
         };
-        match nano_ron_nested::read_choice_ron_within::<Levels, RuleVariants>(
-            below,
-            left - 1,
-            alloc,
-            state,
-            input,
-        ) {
+        match read_choice_ron_within::<Levels, RuleVariants>(below, left - 1, alloc, state, input) {
             Ok(values) => Ok(Rule::make(values)),
             Err(error) => Err(error),
         }

@@ -4,12 +4,17 @@ ghost use Rattle.std.specs.Prelude.{codes, ◌==◌, if◌then◌else◌, refl};
 ghost use Rattle.nano_schema.specs.UserTypes.{agreed};
 
 use super::*;
-use nano_bin_nested::{ReadsBin, WritesBin};
+use nano_bin_nested::{
+    ReadsBin, WritesBin, append_variant, append_variant_within, no_memory, read_choice_within,
+};
 use nano_bin_schema::{BinCodec, DeBin, DeBinErr, SerBin};
-use nano_json_nested::{NestedJson, ReadsJson, WritesJson};
+use nano_json_nested::{
+    NestedJson, ReadsJson, WritesJson, no_levels, read_choice_json_within, too_deep,
+    write_variant_other, write_variant_within,
+};
 use nano_json_schema::{DeJson, DeJsonErr, DeJsonState, JsonCodec, SerJson, SerJsonState};
 use nano_levels::{Levels, Other, Within};
-use nano_ron_nested::{NestedRon, ReadsRon, WritesRon};
+use nano_ron_nested::{NestedRon, ReadsRon, WritesRon, read_choice_ron_within};
 use nano_ron_schema::{DeRon, DeRonErr, DeRonState, RonCodec, SerRon, SerRonState};
 use nano_schema::{Either, EnumSchema, Label, Newtype, Value, Variant};
 use std::alloc::{AllocError, Global};
@@ -83,8 +88,8 @@ impl WritesBin for Tree {
     #[tactic(auto, using(crate::proofs::TreeCodecsLaws::tree_written_laws))]
     fn write_bin(&self, alloc: Global, output: &mut Vec<u8>) -> Result<(), AllocError> {
         match self {
-            Self::Leaf(first) => nano_bin_nested::append_variant(alloc, 0, first, output),
-            Self::Node(first) => nano_bin_nested::append_variant_within(alloc, 1, first, output),
+            Self::Leaf(first) => append_variant(alloc, 0, first, output),
+            Self::Node(first) => append_variant_within(alloc, 1, first, output),
         }
     }
 }
@@ -99,14 +104,12 @@ impl ReadsBin<Tree> for Levels {
     #[cycle(read)]
     fn read_bin(&self, alloc: Global, offset: &mut usize, bytes: &[u8]) -> Result<Tree, DeBinErr> {
         let Levels::More(below) = self else {
-            return Err(nano_bin_nested::no_memory(*offset, bytes));
+            return Err(no_memory(*offset, bytes));
         };
         let Some(below) = below.first() else {
-            return Err(nano_bin_nested::no_memory(*offset, bytes));
+            return Err(no_memory(*offset, bytes));
         };
-        nano_bin_nested::read_choice_within::<Levels, Tree, TreeVariants>(
-            below, alloc, offset, bytes,
-        )
+        read_choice_within::<Levels, Tree, TreeVariants>(below, alloc, offset, bytes)
     }
 }
 
@@ -142,8 +145,8 @@ impl WritesJson for Tree {
     #[tactic(auto, using(crate::proofs::TreeJsonCodecsLaws::tree_json_texts))]
     fn write_json(&self, alloc: Global, d: usize, s: &mut SerJsonState) -> Result<(), AllocError> {
         match self {
-            Self::Leaf(first) => nano_json_nested::write_variant_other(alloc, "Leaf", first, d, s),
-            Self::Node(first) => nano_json_nested::write_variant_within(alloc, "Node", first, d, s),
+            Self::Leaf(first) => write_variant_other(alloc, "Leaf", first, d, s),
+            Self::Node(first) => write_variant_within(alloc, "Node", first, d, s),
         }
     }
 }
@@ -164,15 +167,15 @@ impl ReadsJson<Tree> for Levels {
         input: &mut Chars<'_>,
     ) -> Result<Tree, DeJsonErr> {
         if left == 0 {
-            return Err(nano_json_nested::too_deep(alloc, state));
+            return Err(too_deep(alloc, state));
         }
         let Levels::More(below) = self else {
-            return Err(nano_json_nested::no_levels(alloc, state));
+            return Err(no_levels(alloc, state));
         };
         let Some(below) = below.first() else {
-            return Err(nano_json_nested::no_levels(alloc, state));
+            return Err(no_levels(alloc, state));
         };
-        match nano_json_nested::read_choice_json_within::<Levels, TreeVariants>(
+        match read_choice_json_within::<Levels, TreeVariants>(
             below,
             left - 1,
             alloc,
@@ -249,13 +252,7 @@ impl ReadsRon<Tree> for Levels {
         let Some(below) = below.first() else {
             return Err(nano_ron_nested::no_levels(alloc, state));
         };
-        match nano_ron_nested::read_choice_ron_within::<Levels, TreeVariants>(
-            below,
-            left - 1,
-            alloc,
-            state,
-            input,
-        ) {
+        match read_choice_ron_within::<Levels, TreeVariants>(below, left - 1, alloc, state, input) {
             Ok(values) => Ok(Tree::make(values)),
             Err(error) => Err(error),
         }

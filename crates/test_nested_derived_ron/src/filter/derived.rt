@@ -6,12 +6,15 @@ ghost use Rattle.nano_text.specs.Outcomes.{Appends, AppendsPart, Unchanged};
 ghost use Rattle.nano_json_schema.specs.Variants.{content_text};
 
 use super::*;
-use nano_json_nested::{NestedJson, ReadsJson, WritesJson};
+use nano_json_nested::{
+    NestedJson, ReadsJson, WritesJson, append_optional_within, no_levels, read_choice_json_within,
+    rollback_on_error, too_deep, write_pair_within, write_variant_within,
+};
 use nano_json_schema::{
     DeJson, DeJsonErr, DeJsonState, JsonCodec, JsonRefs, SerJson, SerJsonState,
 };
 use nano_levels::{Levels, Other, Within};
-use nano_ron_nested::{NestedRon, ReadsRon, WritesRon};
+use nano_ron_nested::{NestedRon, ReadsRon, WritesRon, append_required, read_choice_ron_within};
 use nano_ron_schema::{DeRon, DeRonErr, DeRonState, RonCodec, SerRon, SerRonState};
 use nano_schema::{
     Either, EnumSchema, Label, Newtype, Optional, Required, Struct, Tuple, Unit, Value, Variant,
@@ -185,7 +188,7 @@ impl FilterJsonWriter {
         let and_is_first = Required::<FilterHasNames<0>, String>::append_fields(
             &v0, alloc, true, inner, s,
         )?;
-        nano_json_nested::append_optional_within(alloc, "and", v1, and_is_first, inner, s)?;
+        append_optional_within(alloc, "and", v1, and_is_first, inner, s)?;
         s.st_post(d)
     }
 
@@ -230,7 +233,7 @@ impl FilterJsonWriter {
     {
         let start = s.out.len();
         let written = Self::append_has(value, v0, v1, alloc, d, s);
-        nano_json_nested::rollback_on_error(&mut s.out, start, written)
+        rollback_on_error(&mut s.out, start, written)
     }
 }
 
@@ -240,10 +243,10 @@ impl WritesJson for Filter {
     fn write_json(&self, alloc: Global, d: usize, s: &mut SerJsonState) -> Result<(), AllocError> {
         match self {
             Self::Any => nano_json_schema::write_unit_variant(alloc, "Any", s),
-            Self::Not(first) => nano_json_nested::write_variant_within(alloc, "Not", first, d, s),
+            Self::Not(first) => write_variant_within(alloc, "Not", first, d, s),
             Self::AtLeast(first, second) => {
                 let first = &nano_json_schema::Part { of: first };
-                nano_json_nested::write_pair_within(alloc, "AtLeast", first, second, d, s)
+                write_pair_within(alloc, "AtLeast", first, second, d, s)
             }
             Self::Has { field: v0, and: v1 } => {
                 FilterJsonWriter::write_has(self, v0, v1, alloc, d, s)
@@ -268,15 +271,15 @@ impl ReadsJson<Filter> for Levels {
         input: &mut Chars<'_>,
     ) -> Result<Filter, DeJsonErr> {
         if left == 0 {
-            return Err(nano_json_nested::too_deep(alloc, state));
+            return Err(too_deep(alloc, state));
         }
         let Levels::More(below) = self else {
-            return Err(nano_json_nested::no_levels(alloc, state));
+            return Err(no_levels(alloc, state));
         };
         let Some(below) = below.first() else {
-            return Err(nano_json_nested::no_levels(alloc, state));
+            return Err(no_levels(alloc, state));
         };
-        match nano_json_nested::read_choice_json_within::<Levels, FilterJsonVariants>(
+        match read_choice_json_within::<Levels, FilterJsonVariants>(
             below,
             left - 1,
             alloc,
@@ -344,7 +347,7 @@ impl FilterRonWriter {
         nano_ron_schema::write_unit_variant("Has", s)?;
         s.st_pre()?;
         let inner = d.saturating_add(1);
-        nano_ron_nested::append_required(alloc, "field", v0, inner, s)?;
+        append_required(alloc, "field", v0, inner, s)?;
         nano_ron_nested::append_optional_within(alloc, "and", v1, inner, s)?;
         s.st_post(d)
     }
@@ -412,7 +415,7 @@ impl ReadsRon<Filter> for Levels {
         let Some(below) = below.first() else {
             return Err(nano_ron_nested::no_levels(alloc, state));
         };
-        match nano_ron_nested::read_choice_ron_within::<Levels, FilterVariants>(
+        match read_choice_ron_within::<Levels, FilterVariants>(
             below,
             left - 1,
             alloc,

@@ -5,14 +5,17 @@ ghost use Rattle.nano_schema.specs.UserTypes.{agreed};
 ghost use Rattle.nano_text.specs.Outcomes.{Appends, AppendsPart};
 
 use super::*;
-use nano_bin_nested::{ReadsBin, WritesBin};
+use nano_bin_nested::{ReadsBin, WritesBin, append_part_within, no_memory, read_record_within};
 use nano_bin_schema::{BinCodec, DeBin, DeBinErr, SerBin};
-use nano_json_nested::{NestedJson, ReadsJson, WritesJson};
+use nano_json_nested::{
+    NestedJson, ReadsJson, WritesJson, append_required_within, no_levels, read_record_json_within,
+    rollback_on_error, too_deep,
+};
 use nano_json_schema::{
     DeJson, DeJsonErr, DeJsonState, JsonCodec, JsonRefs, SerJson, SerJsonState,
 };
 use nano_levels::{Levels, Other, Within};
-use nano_ron_nested::{NestedRon, ReadsRon, WritesRon};
+use nano_ron_nested::{NestedRon, ReadsRon, WritesRon, append_required, read_record_ron_within};
 use nano_ron_schema::{DeRon, DeRonErr, DeRonState, RonCodec, SerRon, SerRonState};
 use nano_schema::{Label, Required, StructSchema, Value};
 use std::alloc::{AllocError, Global};
@@ -75,7 +78,7 @@ impl WritesBin for Menu {
     fn write_bin(&self, alloc: Global, output: &mut Vec<u8>) -> Result<(), AllocError> {
         let start = output.len();
         SerBin::ser_bin(&self.title, alloc, output)?;
-        nano_bin_nested::append_part_within(alloc, &self.entries, output, start)
+        append_part_within(alloc, &self.entries, output, start)
     }
 }
 
@@ -89,12 +92,12 @@ impl ReadsBin<Menu> for Levels {
     #[cycle(read)]
     fn read_bin(&self, alloc: Global, offset: &mut usize, bytes: &[u8]) -> Result<Menu, DeBinErr> {
         let Levels::More(below) = self else {
-            return Err(nano_bin_nested::no_memory(*offset, bytes));
+            return Err(no_memory(*offset, bytes));
         };
         let Some(below) = below.first() else {
-            return Err(nano_bin_nested::no_memory(*offset, bytes));
+            return Err(no_memory(*offset, bytes));
         };
-        nano_bin_nested::read_record_within::<Levels, Menu, MenuFields>(below, alloc, offset, bytes)
+        read_record_within::<Levels, Menu, MenuFields>(below, alloc, offset, bytes)
     }
 }
 
@@ -153,14 +156,7 @@ impl MenuJsonWriter {
             inner,
             s,
         )?;
-        nano_json_nested::append_required_within(
-            alloc,
-            "entries",
-            &value.entries,
-            entries_is_first,
-            inner,
-            s,
-        )?;
+        append_required_within(alloc, "entries", &value.entries, entries_is_first, inner, s)?;
         s.st_post(d)
     }
 }
@@ -170,7 +166,7 @@ impl WritesJson for Menu {
     fn write_json(&self, alloc: Global, d: usize, s: &mut SerJsonState) -> Result<(), AllocError> {
         let start = s.out.len();
         let written = MenuJsonWriter::append_record(self, alloc, d, s);
-        nano_json_nested::rollback_on_error(&mut s.out, start, written)
+        rollback_on_error(&mut s.out, start, written)
     }
 }
 
@@ -190,21 +186,15 @@ impl ReadsJson<Menu> for Levels {
         input: &mut Chars<'_>,
     ) -> Result<Menu, DeJsonErr> {
         if left == 0 {
-            return Err(nano_json_nested::too_deep(alloc, state));
+            return Err(too_deep(alloc, state));
         }
         let Levels::More(below) = self else {
-            return Err(nano_json_nested::no_levels(alloc, state));
+            return Err(no_levels(alloc, state));
         };
         let Some(below) = below.first() else {
-            return Err(nano_json_nested::no_levels(alloc, state));
+            return Err(no_levels(alloc, state));
         };
-        match nano_json_nested::read_record_json_within::<Levels, MenuFields>(
-            below,
-            left - 1,
-            alloc,
-            state,
-            input,
-        ) {
+        match read_record_json_within::<Levels, MenuFields>(below, left - 1, alloc, state, input) {
             Ok(values) => Ok(Menu::make(values)),
             Err(error) => Err(error),
         }
@@ -261,7 +251,7 @@ impl MenuRonWriter {
     {
         s.st_pre()?;
         let inner = d.saturating_add(1);
-        nano_ron_nested::append_required(alloc, "title", &value.title, inner, s)?;
+        append_required(alloc, "title", &value.title, inner, s)?;
         nano_ron_nested::append_required_within(alloc, "entries", &value.entries, inner, s)?;
         s.st_post(d)
     }
@@ -300,13 +290,7 @@ impl ReadsRon<Menu> for Levels {
         let Some(below) = below.first() else {
             return Err(nano_ron_nested::no_levels(alloc, state));
         };
-        match nano_ron_nested::read_record_ron_within::<Levels, MenuFields>(
-            below,
-            left - 1,
-            alloc,
-            state,
-            input,
-        ) {
+        match read_record_ron_within::<Levels, MenuFields>(below, left - 1, alloc, state, input) {
             Ok(values) => Ok(Menu::make(values)),
             Err(error) => Err(error),
         }

@@ -4,12 +4,17 @@ ghost use Rattle.std.specs.Prelude.{codes, ◌==◌, if◌then◌else◌, refl};
 ghost use Rattle.nano_schema.specs.UserTypes.{agreed};
 
 use super::*;
-use nano_bin_nested::{ReadsBin, WritesBin};
+use nano_bin_nested::{
+    ReadsBin, WritesBin, append_variant, append_variant_within, no_memory, read_choice_within,
+};
 use nano_bin_schema::{BinCodec, DeBin, DeBinErr, SerBin};
-use nano_json_nested::{NestedJson, ReadsJson, WritesJson};
+use nano_json_nested::{
+    NestedJson, ReadsJson, WritesJson, no_levels, read_choice_json_within, too_deep,
+    write_variant_other, write_variant_within,
+};
 use nano_json_schema::{DeJson, DeJsonErr, DeJsonState, JsonCodec, SerJson, SerJsonState};
 use nano_levels::{Levels, Other, Within};
-use nano_ron_nested::{NestedRon, ReadsRon, WritesRon};
+use nano_ron_nested::{NestedRon, ReadsRon, WritesRon, read_choice_ron_within};
 use nano_ron_schema::{DeRon, DeRonErr, DeRonState, RonCodec, SerRon, SerRonState};
 use nano_schema::{Either, EnumSchema, Label, Newtype, Unit, Value, Variant};
 use std::alloc::{AllocError, Global};
@@ -130,11 +135,11 @@ impl WritesBin for Setting {
     #[tactic(auto, using(crate::proofs::SettingCodecsLaws::setting_written_laws))]
     fn write_bin(&self, alloc: Global, output: &mut Vec<u8>) -> Result<(), AllocError> {
         match self {
-            Self::Unset => nano_bin_nested::append_variant(alloc, 0, &(), output),
-            Self::Text(first) => nano_bin_nested::append_variant(alloc, 1, first, output),
-            Self::Counts(first) => nano_bin_nested::append_variant(alloc, 2, first, output),
-            Self::Table(first) => nano_bin_nested::append_variant_within(alloc, 3, first, output),
-            Self::Lists(first) => nano_bin_nested::append_variant_within(alloc, 4, first, output),
+            Self::Unset => append_variant(alloc, 0, &(), output),
+            Self::Text(first) => append_variant(alloc, 1, first, output),
+            Self::Counts(first) => append_variant(alloc, 2, first, output),
+            Self::Table(first) => append_variant_within(alloc, 3, first, output),
+            Self::Lists(first) => append_variant_within(alloc, 4, first, output),
         }
     }
 }
@@ -154,14 +159,12 @@ impl ReadsBin<Setting> for Levels {
         bytes: &[u8],
     ) -> Result<Setting, DeBinErr> {
         let Levels::More(below) = self else {
-            return Err(nano_bin_nested::no_memory(*offset, bytes));
+            return Err(no_memory(*offset, bytes));
         };
         let Some(below) = below.first() else {
-            return Err(nano_bin_nested::no_memory(*offset, bytes));
+            return Err(no_memory(*offset, bytes));
         };
-        nano_bin_nested::read_choice_within::<Levels, Setting, SettingVariants>(
-            below, alloc, offset, bytes,
-        )
+        read_choice_within::<Levels, Setting, SettingVariants>(below, alloc, offset, bytes)
     }
 }
 
@@ -198,16 +201,10 @@ impl WritesJson for Setting {
     fn write_json(&self, alloc: Global, d: usize, s: &mut SerJsonState) -> Result<(), AllocError> {
         match self {
             Self::Unset => nano_json_schema::write_unit_variant(alloc, "Unset", s),
-            Self::Text(first) => nano_json_nested::write_variant_other(alloc, "Text", first, d, s),
-            Self::Counts(first) => {
-                nano_json_nested::write_variant_other(alloc, "Counts", first, d, s)
-            }
-            Self::Table(first) => {
-                nano_json_nested::write_variant_within(alloc, "Table", first, d, s)
-            }
-            Self::Lists(first) => {
-                nano_json_nested::write_variant_within(alloc, "Lists", first, d, s)
-            }
+            Self::Text(first) => write_variant_other(alloc, "Text", first, d, s),
+            Self::Counts(first) => write_variant_other(alloc, "Counts", first, d, s),
+            Self::Table(first) => write_variant_within(alloc, "Table", first, d, s),
+            Self::Lists(first) => write_variant_within(alloc, "Lists", first, d, s),
         }
     }
 }
@@ -228,15 +225,15 @@ impl ReadsJson<Setting> for Levels {
         input: &mut Chars<'_>,
     ) -> Result<Setting, DeJsonErr> {
         if left == 0 {
-            return Err(nano_json_nested::too_deep(alloc, state));
+            return Err(too_deep(alloc, state));
         }
         let Levels::More(below) = self else {
-            return Err(nano_json_nested::no_levels(alloc, state));
+            return Err(no_levels(alloc, state));
         };
         let Some(below) = below.first() else {
-            return Err(nano_json_nested::no_levels(alloc, state));
+            return Err(no_levels(alloc, state));
         };
-        match nano_json_nested::read_choice_json_within::<Levels, SettingVariants>(
+        match read_choice_json_within::<Levels, SettingVariants>(
             below,
             left - 1,
             alloc,
@@ -322,7 +319,7 @@ impl ReadsRon<Setting> for Levels {
         let Some(below) = below.first() else {
             return Err(nano_ron_nested::no_levels(alloc, state));
         };
-        match nano_ron_nested::read_choice_ron_within::<Levels, SettingVariants>(
+        match read_choice_ron_within::<Levels, SettingVariants>(
             below,
             left - 1,
             alloc,

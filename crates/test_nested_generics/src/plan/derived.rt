@@ -7,14 +7,20 @@ ghost use Rattle.nano_text.specs.Outcomes.{Appends, AppendsPart, Unchanged};
 ghost use Rattle.nano_json_schema.specs.Variants.{content_text};
 
 use super::*;
-use nano_bin_nested::{ReadsBin, WritesBin};
+use nano_bin_nested::{
+    ReadsBin, WritesBin, append_part_within, append_variant, append_variant_within, no_memory,
+    read_choice_within,
+};
 use nano_bin_schema::{BinCodec, DeBin, DeBinErr, SerBin};
-use nano_json_nested::{NestedJson, ReadsJson, WritesJson};
+use nano_json_nested::{
+    NestedJson, ReadsJson, WritesJson, append_required_within, no_levels, read_choice_json_within,
+    rollback_on_error, too_deep, write_pair_within, write_variant_other,
+};
 use nano_json_schema::{
     DeJson, DeJsonErr, DeJsonState, JsonCodec, JsonRefs, SerJson, SerJsonState,
 };
 use nano_levels::{Levels, Other, Within};
-use nano_ron_nested::{NestedRon, ReadsRon, WritesRon};
+use nano_ron_nested::{NestedRon, ReadsRon, WritesRon, append_required, read_choice_ron_within};
 use nano_ron_schema::{DeRon, DeRonErr, DeRonState, RonCodec, SerRon, SerRonState};
 use nano_schema::{
     Either, EnumSchema, Label, Newtype, Required, Struct, Tuple, Unit, Value, Variant,
@@ -155,16 +161,16 @@ impl<T: SerBin> WritesBin for Plan<T> {
     fn write_bin(&self, alloc: Global, output: &mut Vec<u8>) -> Result<(), AllocError> {
         let start = output.len();
         match self {
-            Self::Nothing => nano_bin_nested::append_variant(alloc, 0, &(), output),
-            Self::One(first) => nano_bin_nested::append_variant(alloc, 1, first, output),
-            Self::Many(first) => nano_bin_nested::append_variant(alloc, 2, first, output),
+            Self::Nothing => append_variant(alloc, 0, &(), output),
+            Self::One(first) => append_variant(alloc, 1, first, output),
+            Self::Many(first) => append_variant(alloc, 2, first, output),
             Self::Both(first, second) => {
-                nano_bin_nested::append_variant_within(alloc, 3, first, output)?;
+                append_variant_within(alloc, 3, first, output)?;
                 nano_bin::append_part(alloc, second, output, start)
             }
             Self::Step { item, next } => {
-                nano_bin_nested::append_variant(alloc, 4, item, output)?;
-                nano_bin_nested::append_part_within(alloc, next, output, start)
+                append_variant(alloc, 4, item, output)?;
+                append_part_within(alloc, next, output, start)
             }
         }
     }
@@ -185,14 +191,12 @@ impl<T: DeBin> ReadsBin<Plan<T>> for Levels {
         bytes: &[u8],
     ) -> Result<Plan<T>, DeBinErr> {
         let Levels::More(below) = self else {
-            return Err(nano_bin_nested::no_memory(*offset, bytes));
+            return Err(no_memory(*offset, bytes));
         };
         let Some(below) = below.first() else {
-            return Err(nano_bin_nested::no_memory(*offset, bytes));
+            return Err(no_memory(*offset, bytes));
         };
-        nano_bin_nested::read_choice_within::<Levels, Plan<T>, PlanVariants<T>>(
-            below, alloc, offset, bytes,
-        )
+        read_choice_within::<Levels, Plan<T>, PlanVariants<T>>(below, alloc, offset, bytes)
     }
 }
 
@@ -272,7 +276,7 @@ impl PlanJsonWriter {
         let next_is_first = Required::<PlanStepNames<0>, T>::append_fields(
             &v0, alloc, true, inner, s,
         )?;
-        nano_json_nested::append_required_within(alloc, "next", v1, next_is_first, inner, s)?;
+        append_required_within(alloc, "next", v1, next_is_first, inner, s)?;
         s.st_post(d)
     }
 
@@ -317,7 +321,7 @@ impl PlanJsonWriter {
     {
         let start = s.out.len();
         let written = Self::append_step(value, v0, v1, alloc, d, s);
-        nano_json_nested::rollback_on_error(&mut s.out, start, written)
+        rollback_on_error(&mut s.out, start, written)
     }
 }
 
@@ -327,11 +331,11 @@ impl<T: BinCodec + SerJson> WritesJson for Plan<T> {
     fn write_json(&self, alloc: Global, d: usize, s: &mut SerJsonState) -> Result<(), AllocError> {
         match self {
             Self::Nothing => nano_json_schema::write_unit_variant(alloc, "Nothing", s),
-            Self::One(first) => nano_json_nested::write_variant_other(alloc, "One", first, d, s),
-            Self::Many(first) => nano_json_nested::write_variant_other(alloc, "Many", first, d, s),
+            Self::One(first) => write_variant_other(alloc, "One", first, d, s),
+            Self::Many(first) => write_variant_other(alloc, "Many", first, d, s),
             Self::Both(first, second) => {
                 let second = &nano_json_schema::Part { of: second };
-                nano_json_nested::write_pair_within(alloc, "Both", first, second, d, s)
+                write_pair_within(alloc, "Both", first, second, d, s)
             }
             Self::Step { item: v0, next: v1 } => {
                 PlanJsonWriter::write_step(self, v0, v1, alloc, d, s)
@@ -356,15 +360,15 @@ impl<T: DeJson> ReadsJson<Plan<T>> for Levels {
         input: &mut Chars<'_>,
     ) -> Result<Plan<T>, DeJsonErr> {
         if left == 0 {
-            return Err(nano_json_nested::too_deep(alloc, state));
+            return Err(too_deep(alloc, state));
         }
         let Levels::More(below) = self else {
-            return Err(nano_json_nested::no_levels(alloc, state));
+            return Err(no_levels(alloc, state));
         };
         let Some(below) = below.first() else {
-            return Err(nano_json_nested::no_levels(alloc, state));
+            return Err(no_levels(alloc, state));
         };
-        match nano_json_nested::read_choice_json_within::<Levels, PlanJsonVariants<T>>(
+        match read_choice_json_within::<Levels, PlanJsonVariants<T>>(
             below,
             left - 1,
             alloc,
@@ -432,7 +436,7 @@ impl PlanRonWriter {
         nano_ron_schema::write_unit_variant("Step", s)?;
         s.st_pre()?;
         let inner = d.saturating_add(1);
-        nano_ron_nested::append_required(alloc, "item", v0, inner, s)?;
+        append_required(alloc, "item", v0, inner, s)?;
         nano_ron_nested::append_required_within(alloc, "next", v1, inner, s)?;
         s.st_post(d)
     }
@@ -501,7 +505,7 @@ impl<T: DeRon> ReadsRon<Plan<T>> for Levels {
         let Some(below) = below.first() else {
             return Err(nano_ron_nested::no_levels(alloc, state));
         };
-        match nano_ron_nested::read_choice_ron_within::<Levels, PlanVariants<T>>(
+        match read_choice_ron_within::<Levels, PlanVariants<T>>(
             below,
             left - 1,
             alloc,

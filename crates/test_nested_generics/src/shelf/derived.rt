@@ -6,14 +6,19 @@ ghost use Rattle.nano_text.specs.Outcomes.{Appends, AppendsPart};
 ghost use Rattle.nano_schema_levels.proofs.LegalLevelsLaws.{between};
 
 use super::*;
-use nano_bin_nested::{ReadsBin, WritesBin};
+use nano_bin_nested::{ReadsBin, WritesBin, append_part_within, no_memory, read_record_within};
 use nano_bin_schema::{BinCodec, DeBin, DeBinErr, SerBin};
-use nano_json_nested::{NestedJson, ReadsJson, WritesJson};
+use nano_json_nested::{
+    NestedJson, ReadsJson, WritesJson, append_required_within, no_levels, read_record_json_within,
+    rollback_on_error, too_deep,
+};
 use nano_json_schema::{
     DeJson, DeJsonErr, DeJsonState, JsonCodec, JsonRefs, SerJson, SerJsonState,
 };
 use nano_levels::{Levels, Other, Within};
-use nano_ron_nested::{NestedRon, ReadsRon, WritesRon};
+use nano_ron_nested::{
+    NestedRon, ReadsRon, WritesRon, append_optional, append_required, read_record_ron_within,
+};
 use nano_ron_schema::{DeRon, DeRonErr, DeRonState, RonCodec, SerRon, SerRonState};
 use nano_schema::{Label, Optional, Required, StructSchema, Value};
 use std::alloc::{AllocError, Global};
@@ -92,7 +97,7 @@ impl<K: SerBin, V: SerBin> WritesBin for Shelf<K, V> {
         SerBin::ser_bin(&self.name, alloc, output)?;
         nano_bin::append_part(alloc, &self.values, output, start)?;
         nano_bin::append_part(alloc, &self.best, output, start)?;
-        nano_bin_nested::append_part_within(alloc, &self.inner, output, start)
+        append_part_within(alloc, &self.inner, output, start)
     }
 }
 
@@ -111,14 +116,12 @@ impl<K: DeBin, V: DeBin> ReadsBin<Shelf<K, V>> for Levels {
         bytes: &[u8],
     ) -> Result<Shelf<K, V>, DeBinErr> {
         let Levels::More(below) = self else {
-            return Err(nano_bin_nested::no_memory(*offset, bytes));
+            return Err(no_memory(*offset, bytes));
         };
         let Some(below) = below.first() else {
-            return Err(nano_bin_nested::no_memory(*offset, bytes));
+            return Err(no_memory(*offset, bytes));
         };
-        nano_bin_nested::read_record_within::<Levels, Shelf<K, V>, ShelfFields<K, V>>(
-            below, alloc, offset, bytes,
-        )
+        read_record_within::<Levels, Shelf<K, V>, ShelfFields<K, V>>(below, alloc, offset, bytes)
     }
 }
 
@@ -194,14 +197,7 @@ impl ShelfJsonWriter {
             inner,
             s,
         )?;
-        nano_json_nested::append_required_within(
-            alloc,
-            "inner",
-            &value.inner,
-            inner_is_first,
-            inner,
-            s,
-        )?;
+        append_required_within(alloc, "inner", &value.inner, inner_is_first, inner, s)?;
         s.st_post(d)
     }
 }
@@ -211,7 +207,7 @@ impl<K: BinCodec + SerJson, V: BinCodec + SerJson> WritesJson for Shelf<K, V> {
     fn write_json(&self, alloc: Global, d: usize, s: &mut SerJsonState) -> Result<(), AllocError> {
         let start = s.out.len();
         let written = ShelfJsonWriter::append_record(self, alloc, d, s);
-        nano_json_nested::rollback_on_error(&mut s.out, start, written)
+        rollback_on_error(&mut s.out, start, written)
     }
 }
 
@@ -231,15 +227,15 @@ impl<K: DeJson, V: DeJson> ReadsJson<Shelf<K, V>> for Levels {
         input: &mut Chars<'_>,
     ) -> Result<Shelf<K, V>, DeJsonErr> {
         if left == 0 {
-            return Err(nano_json_nested::too_deep(alloc, state));
+            return Err(too_deep(alloc, state));
         }
         let Levels::More(below) = self else {
-            return Err(nano_json_nested::no_levels(alloc, state));
+            return Err(no_levels(alloc, state));
         };
         let Some(below) = below.first() else {
-            return Err(nano_json_nested::no_levels(alloc, state));
+            return Err(no_levels(alloc, state));
         };
-        match nano_json_nested::read_record_json_within::<Levels, ShelfFields<K, V>>(
+        match read_record_json_within::<Levels, ShelfFields<K, V>>(
             below,
             left - 1,
             alloc,
@@ -303,9 +299,9 @@ impl ShelfRonWriter {
     {
         s.st_pre()?;
         let inner = d.saturating_add(1);
-        nano_ron_nested::append_required(alloc, "name", &value.name, inner, s)?;
-        nano_ron_nested::append_required(alloc, "values", &value.values, inner, s)?;
-        nano_ron_nested::append_optional(alloc, "best", &value.best, inner, s)?;
+        append_required(alloc, "name", &value.name, inner, s)?;
+        append_required(alloc, "values", &value.values, inner, s)?;
+        append_optional(alloc, "best", &value.best, inner, s)?;
         nano_ron_nested::append_required_within(alloc, "inner", &value.inner, inner, s)?;
         s.st_post(d)
     }
@@ -344,7 +340,7 @@ impl<K: DeRon, V: DeRon> ReadsRon<Shelf<K, V>> for Levels {
         let Some(below) = below.first() else {
             return Err(nano_ron_nested::no_levels(alloc, state));
         };
-        match nano_ron_nested::read_record_ron_within::<Levels, ShelfFields<K, V>>(
+        match read_record_ron_within::<Levels, ShelfFields<K, V>>(
             below,
             left - 1,
             alloc,

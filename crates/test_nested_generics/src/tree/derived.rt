@@ -5,12 +5,17 @@ ghost use Rattle.nano_schema.specs.UserTypes.{agreed};
 ghost use Rattle.nano_schema_levels.proofs.LegalLevelsLaws.{between};
 
 use super::*;
-use nano_bin_nested::{ReadsBin, WritesBin};
+use nano_bin_nested::{
+    ReadsBin, WritesBin, append_variant, append_variant_within, no_memory, read_choice_within,
+};
 use nano_bin_schema::{BinCodec, DeBin, DeBinErr, SerBin};
-use nano_json_nested::{NestedJson, ReadsJson, WritesJson};
+use nano_json_nested::{
+    NestedJson, ReadsJson, WritesJson, no_levels, read_choice_json_within, too_deep,
+    write_variant_other, write_variant_within,
+};
 use nano_json_schema::{DeJson, DeJsonErr, DeJsonState, JsonCodec, SerJson, SerJsonState};
 use nano_levels::{Levels, Other, Within};
-use nano_ron_nested::{NestedRon, ReadsRon, WritesRon};
+use nano_ron_nested::{NestedRon, ReadsRon, WritesRon, read_choice_ron_within};
 use nano_ron_schema::{DeRon, DeRonErr, DeRonState, RonCodec, SerRon, SerRonState};
 use nano_schema::{Either, EnumSchema, Label, Newtype, Value, Variant};
 use std::alloc::{AllocError, Global};
@@ -84,8 +89,8 @@ impl<T: SerBin> WritesBin for Tree<T> {
     #[tactic(auto, using(crate::proofs::TreeCodecsLaws::tree_written_laws))]
     fn write_bin(&self, alloc: Global, output: &mut Vec<u8>) -> Result<(), AllocError> {
         match self {
-            Self::Leaf(first) => nano_bin_nested::append_variant(alloc, 0, first, output),
-            Self::Node(first) => nano_bin_nested::append_variant_within(alloc, 1, first, output),
+            Self::Leaf(first) => append_variant(alloc, 0, first, output),
+            Self::Node(first) => append_variant_within(alloc, 1, first, output),
         }
     }
 }
@@ -105,14 +110,12 @@ impl<T: DeBin> ReadsBin<Tree<T>> for Levels {
         bytes: &[u8],
     ) -> Result<Tree<T>, DeBinErr> {
         let Levels::More(below) = self else {
-            return Err(nano_bin_nested::no_memory(*offset, bytes));
+            return Err(no_memory(*offset, bytes));
         };
         let Some(below) = below.first() else {
-            return Err(nano_bin_nested::no_memory(*offset, bytes));
+            return Err(no_memory(*offset, bytes));
         };
-        nano_bin_nested::read_choice_within::<Levels, Tree<T>, TreeVariants<T>>(
-            below, alloc, offset, bytes,
-        )
+        read_choice_within::<Levels, Tree<T>, TreeVariants<T>>(below, alloc, offset, bytes)
     }
 }
 
@@ -150,8 +153,8 @@ impl<T: BinCodec + SerJson> WritesJson for Tree<T> {
     #[tactic(auto, using(crate::proofs::TreeJsonCodecsLaws::tree_json_texts))]
     fn write_json(&self, alloc: Global, d: usize, s: &mut SerJsonState) -> Result<(), AllocError> {
         match self {
-            Self::Leaf(first) => nano_json_nested::write_variant_other(alloc, "Leaf", first, d, s),
-            Self::Node(first) => nano_json_nested::write_variant_within(alloc, "Node", first, d, s),
+            Self::Leaf(first) => write_variant_other(alloc, "Leaf", first, d, s),
+            Self::Node(first) => write_variant_within(alloc, "Node", first, d, s),
         }
     }
 }
@@ -172,15 +175,15 @@ impl<T: DeJson> ReadsJson<Tree<T>> for Levels {
         input: &mut Chars<'_>,
     ) -> Result<Tree<T>, DeJsonErr> {
         if left == 0 {
-            return Err(nano_json_nested::too_deep(alloc, state));
+            return Err(too_deep(alloc, state));
         }
         let Levels::More(below) = self else {
-            return Err(nano_json_nested::no_levels(alloc, state));
+            return Err(no_levels(alloc, state));
         };
         let Some(below) = below.first() else {
-            return Err(nano_json_nested::no_levels(alloc, state));
+            return Err(no_levels(alloc, state));
         };
-        match nano_json_nested::read_choice_json_within::<Levels, TreeVariants<T>>(
+        match read_choice_json_within::<Levels, TreeVariants<T>>(
             below,
             left - 1,
             alloc,
@@ -257,7 +260,7 @@ impl<T: DeRon> ReadsRon<Tree<T>> for Levels {
         let Some(below) = below.first() else {
             return Err(nano_ron_nested::no_levels(alloc, state));
         };
-        match nano_ron_nested::read_choice_ron_within::<Levels, TreeVariants<T>>(
+        match read_choice_ron_within::<Levels, TreeVariants<T>>(
             below,
             left - 1,
             alloc,

@@ -10,15 +10,23 @@ ghost use Rattle.nano_text.specs.Outcomes.{Appends, AppendsPart, Unchanged};
 ghost use Rattle.nano_json_schema.specs.Variants.{content_text};
 
 use super::*;
-use nano_bin_nested::{ReadsBin, WritesBin};
+use nano_bin_nested::{
+    ReadsBin, WritesBin, append_part_within, append_variant, no_memory, read_choice_within,
+    read_record_within,
+};
 use nano_bin_schema::{BinCodec, BinShapes, DeBin, DeBinErr, SerBin};
-use nano_json_nested::{NestedJson, ReadsJson, WritesJson};
+use nano_json_nested::{
+    NestedJson, ReadsJson, WritesJson, append_required_within, no_levels, read_choice_json_within,
+    read_record_json_within, rollback_on_error, too_deep,
+};
 use nano_json_schema::{
     DeJson, DeJsonErr, DeJsonState, JsonCodec, JsonRefs, JsonResult, JsonShapes, SerJson,
     SerJsonState,
 };
 use nano_levels::{Levels, Other, Within};
-use nano_ron_nested::{NestedRon, ReadsRon, WritesRon};
+use nano_ron_nested::{
+    NestedRon, ReadsRon, WritesRon, append_required, read_choice_ron_within, read_record_ron_within,
+};
 use nano_ron_schema::{
     DeRon, DeRonErr, DeRonState, RonCodec, RonResult, RonShapes, SerRon, SerRonState,
 };
@@ -222,7 +230,7 @@ impl WritesBin for Camp {
     fn write_bin(&self, alloc: Global, output: &mut Vec<u8>) -> Result<(), AllocError> {
         let start = output.len();
         SerBin::ser_bin(&self.weather, alloc, output)?;
-        nano_bin_nested::append_part_within(alloc, &self.camps, output, start)
+        append_part_within(alloc, &self.camps, output, start)
     }
 }
 
@@ -236,12 +244,12 @@ impl ReadsBin<Camp> for Levels {
     #[cycle(read)]
     fn read_bin(&self, alloc: Global, offset: &mut usize, bytes: &[u8]) -> Result<Camp, DeBinErr> {
         let Levels::More(below) = self else {
-            return Err(nano_bin_nested::no_memory(*offset, bytes));
+            return Err(no_memory(*offset, bytes));
         };
         let Some(below) = below.first() else {
-            return Err(nano_bin_nested::no_memory(*offset, bytes));
+            return Err(no_memory(*offset, bytes));
         };
-        nano_bin_nested::read_record_within::<Levels, Camp, CampFields>(below, alloc, offset, bytes)
+        read_record_within::<Levels, Camp, CampFields>(below, alloc, offset, bytes)
     }
 }
 
@@ -300,14 +308,7 @@ impl CampJsonWriter {
             inner,
             s,
         )?;
-        nano_json_nested::append_required_within(
-            alloc,
-            "camps",
-            &value.camps,
-            camps_is_first,
-            inner,
-            s,
-        )?;
+        append_required_within(alloc, "camps", &value.camps, camps_is_first, inner, s)?;
         s.st_post(d)
     }
 }
@@ -317,7 +318,7 @@ impl WritesJson for Camp {
     fn write_json(&self, alloc: Global, d: usize, s: &mut SerJsonState) -> Result<(), AllocError> {
         let start = s.out.len();
         let written = CampJsonWriter::append_record(self, alloc, d, s);
-        nano_json_nested::rollback_on_error(&mut s.out, start, written)
+        rollback_on_error(&mut s.out, start, written)
     }
 }
 
@@ -337,21 +338,15 @@ impl ReadsJson<Camp> for Levels {
         input: &mut Chars<'_>,
     ) -> Result<Camp, DeJsonErr> {
         if left == 0 {
-            return Err(nano_json_nested::too_deep(alloc, state));
+            return Err(too_deep(alloc, state));
         }
         let Levels::More(below) = self else {
-            return Err(nano_json_nested::no_levels(alloc, state));
+            return Err(no_levels(alloc, state));
         };
         let Some(below) = below.first() else {
-            return Err(nano_json_nested::no_levels(alloc, state));
+            return Err(no_levels(alloc, state));
         };
-        match nano_json_nested::read_record_json_within::<Levels, CampFields>(
-            below,
-            left - 1,
-            alloc,
-            state,
-            input,
-        ) {
+        match read_record_json_within::<Levels, CampFields>(below, left - 1, alloc, state, input) {
             Ok(values) => Ok(Camp::make(values)),
             Err(error) => Err(error),
         }
@@ -408,7 +403,7 @@ impl CampRonWriter {
     {
         s.st_pre()?;
         let inner = d.saturating_add(1);
-        nano_ron_nested::append_required(alloc, "weather", &value.weather, inner, s)?;
+        append_required(alloc, "weather", &value.weather, inner, s)?;
         nano_ron_nested::append_required_within(alloc, "camps", &value.camps, inner, s)?;
         s.st_post(d)
     }
@@ -447,13 +442,7 @@ impl ReadsRon<Camp> for Levels {
         let Some(below) = below.first() else {
             return Err(nano_ron_nested::no_levels(alloc, state));
         };
-        match nano_ron_nested::read_record_ron_within::<Levels, CampFields>(
-            below,
-            left - 1,
-            alloc,
-            state,
-            input,
-        ) {
+        match read_record_ron_within::<Levels, CampFields>(below, left - 1, alloc, state, input) {
             Ok(values) => Ok(Camp::make(values)),
             Err(error) => Err(error),
         }
@@ -558,10 +547,10 @@ impl WritesBin for Route {
     fn write_bin(&self, alloc: Global, output: &mut Vec<u8>) -> Result<(), AllocError> {
         let start = output.len();
         match self {
-            Self::End => nano_bin_nested::append_variant(alloc, 0, &(), output),
+            Self::End => append_variant(alloc, 0, &(), output),
             Self::Step { weather, rest } => {
-                nano_bin_nested::append_variant(alloc, 1, weather, output)?;
-                nano_bin_nested::append_part_within(alloc, rest, output, start)
+                append_variant(alloc, 1, weather, output)?;
+                append_part_within(alloc, rest, output, start)
             }
         }
     }
@@ -577,14 +566,12 @@ impl ReadsBin<Route> for Levels {
     #[cycle(read)]
     fn read_bin(&self, alloc: Global, offset: &mut usize, bytes: &[u8]) -> Result<Route, DeBinErr> {
         let Levels::More(below) = self else {
-            return Err(nano_bin_nested::no_memory(*offset, bytes));
+            return Err(no_memory(*offset, bytes));
         };
         let Some(below) = below.first() else {
-            return Err(nano_bin_nested::no_memory(*offset, bytes));
+            return Err(no_memory(*offset, bytes));
         };
-        nano_bin_nested::read_choice_within::<Levels, Route, RouteVariants>(
-            below, alloc, offset, bytes,
-        )
+        read_choice_within::<Levels, Route, RouteVariants>(below, alloc, offset, bytes)
     }
 }
 
@@ -643,7 +630,7 @@ impl RouteJsonWriter {
         let rest_is_first = Required::<RouteStepNames<0>, Weather>::append_fields(
             &v0, alloc, true, inner, s,
         )?;
-        nano_json_nested::append_required_within(alloc, "rest", v1, rest_is_first, inner, s)?;
+        append_required_within(alloc, "rest", v1, rest_is_first, inner, s)?;
         s.st_post(d)
     }
 
@@ -688,7 +675,7 @@ impl RouteJsonWriter {
     {
         let start = s.out.len();
         let written = Self::append_step(value, v0, v1, alloc, d, s);
-        nano_json_nested::rollback_on_error(&mut s.out, start, written)
+        rollback_on_error(&mut s.out, start, written)
     }
 }
 
@@ -722,15 +709,15 @@ impl ReadsJson<Route> for Levels {
         input: &mut Chars<'_>,
     ) -> Result<Route, DeJsonErr> {
         if left == 0 {
-            return Err(nano_json_nested::too_deep(alloc, state));
+            return Err(too_deep(alloc, state));
         }
         let Levels::More(below) = self else {
-            return Err(nano_json_nested::no_levels(alloc, state));
+            return Err(no_levels(alloc, state));
         };
         let Some(below) = below.first() else {
-            return Err(nano_json_nested::no_levels(alloc, state));
+            return Err(no_levels(alloc, state));
         };
-        match nano_json_nested::read_choice_json_within::<Levels, RouteVariants>(
+        match read_choice_json_within::<Levels, RouteVariants>(
             below,
             left - 1,
             alloc,
@@ -798,7 +785,7 @@ impl RouteRonWriter {
         nano_ron_schema::write_unit_variant("Step", s)?;
         s.st_pre()?;
         let inner = d.saturating_add(1);
-        nano_ron_nested::append_required(alloc, "weather", v0, inner, s)?;
+        append_required(alloc, "weather", v0, inner, s)?;
         nano_ron_nested::append_required_within(alloc, "rest", v1, inner, s)?;
         s.st_post(d)
     }
@@ -862,7 +849,7 @@ impl ReadsRon<Route> for Levels {
         let Some(below) = below.first() else {
             return Err(nano_ron_nested::no_levels(alloc, state));
         };
-        match nano_ron_nested::read_choice_ron_within::<Levels, RouteVariants>(
+        match read_choice_ron_within::<Levels, RouteVariants>(
             below,
             left - 1,
             alloc,

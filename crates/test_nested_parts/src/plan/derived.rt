@@ -6,14 +6,19 @@ ghost use Rattle.nano_text.specs.Outcomes.{Appends, AppendsPart, Unchanged};
 ghost use Rattle.nano_json_schema.specs.Variants.{content_text};
 
 use super::*;
-use nano_bin_nested::{ReadsBin, WritesBin};
+use nano_bin_nested::{
+    ReadsBin, WritesBin, append_part_within, append_variant, no_memory, read_choice_within,
+};
 use nano_bin_schema::{BinCodec, DeBin, DeBinErr, SerBin};
-use nano_json_nested::{NestedJson, ReadsJson, WritesJson};
+use nano_json_nested::{
+    NestedJson, ReadsJson, WritesJson, append_required_within, no_levels, read_choice_json_within,
+    rollback_on_error, too_deep, write_pair_within,
+};
 use nano_json_schema::{
     DeJson, DeJsonErr, DeJsonState, JsonCodec, JsonRefs, SerJson, SerJsonState,
 };
 use nano_levels::{Levels, Other, Within};
-use nano_ron_nested::{NestedRon, ReadsRon, WritesRon};
+use nano_ron_nested::{NestedRon, ReadsRon, WritesRon, append_optional, read_choice_ron_within};
 use nano_ron_schema::{DeRon, DeRonErr, DeRonState, RonCodec, SerRon, SerRonState};
 use nano_schema::{
     Either, EnumSchema, Label, Newtype, Optional, Required, Struct, Tuple, Unit, Value, Variant,
@@ -126,14 +131,14 @@ impl WritesBin for Plan {
     fn write_bin(&self, alloc: Global, output: &mut Vec<u8>) -> Result<(), AllocError> {
         let start = output.len();
         match self {
-            Self::End => nano_bin_nested::append_variant(alloc, 0, &(), output),
+            Self::End => append_variant(alloc, 0, &(), output),
             Self::Go(first, second) => {
-                nano_bin_nested::append_variant(alloc, 1, first, output)?;
-                nano_bin_nested::append_part_within(alloc, second, output, start)
+                append_variant(alloc, 1, first, output)?;
+                append_part_within(alloc, second, output, start)
             }
             Self::Choose { at, plans } => {
-                nano_bin_nested::append_variant(alloc, 2, at, output)?;
-                nano_bin_nested::append_part_within(alloc, plans, output, start)
+                append_variant(alloc, 2, at, output)?;
+                append_part_within(alloc, plans, output, start)
             }
         }
     }
@@ -149,14 +154,12 @@ impl ReadsBin<Plan> for Levels {
     #[cycle(read)]
     fn read_bin(&self, alloc: Global, offset: &mut usize, bytes: &[u8]) -> Result<Plan, DeBinErr> {
         let Levels::More(below) = self else {
-            return Err(nano_bin_nested::no_memory(*offset, bytes));
+            return Err(no_memory(*offset, bytes));
         };
         let Some(below) = below.first() else {
-            return Err(nano_bin_nested::no_memory(*offset, bytes));
+            return Err(no_memory(*offset, bytes));
         };
-        nano_bin_nested::read_choice_within::<Levels, Plan, PlanVariants>(
-            below, alloc, offset, bytes,
-        )
+        read_choice_within::<Levels, Plan, PlanVariants>(below, alloc, offset, bytes)
     }
 }
 
@@ -221,7 +224,7 @@ impl PlanJsonWriter {
         let plans_is_first = Optional::<PlanChooseNames<0>, Scene>::append_fields(
             &v0, alloc, true, inner, s,
         )?;
-        nano_json_nested::append_required_within(alloc, "plans", v1, plans_is_first, inner, s)?;
+        append_required_within(alloc, "plans", v1, plans_is_first, inner, s)?;
         s.st_post(d)
     }
 
@@ -266,7 +269,7 @@ impl PlanJsonWriter {
     {
         let start = s.out.len();
         let written = Self::append_choose(value, v0, v1, alloc, d, s);
-        nano_json_nested::rollback_on_error(&mut s.out, start, written)
+        rollback_on_error(&mut s.out, start, written)
     }
 }
 
@@ -278,7 +281,7 @@ impl WritesJson for Plan {
             Self::End => nano_json_schema::write_unit_variant(alloc, "End", s),
             Self::Go(first, second) => {
                 let first = &nano_json_schema::Part { of: first };
-                nano_json_nested::write_pair_within(alloc, "Go", first, second, d, s)
+                write_pair_within(alloc, "Go", first, second, d, s)
             }
             Self::Choose { at: v0, plans: v1 } => {
                 PlanJsonWriter::write_choose(self, v0, v1, alloc, d, s)
@@ -303,15 +306,15 @@ impl ReadsJson<Plan> for Levels {
         input: &mut Chars<'_>,
     ) -> Result<Plan, DeJsonErr> {
         if left == 0 {
-            return Err(nano_json_nested::too_deep(alloc, state));
+            return Err(too_deep(alloc, state));
         }
         let Levels::More(below) = self else {
-            return Err(nano_json_nested::no_levels(alloc, state));
+            return Err(no_levels(alloc, state));
         };
         let Some(below) = below.first() else {
-            return Err(nano_json_nested::no_levels(alloc, state));
+            return Err(no_levels(alloc, state));
         };
-        match nano_json_nested::read_choice_json_within::<Levels, PlanJsonVariants>(
+        match read_choice_json_within::<Levels, PlanJsonVariants>(
             below,
             left - 1,
             alloc,
@@ -379,7 +382,7 @@ impl PlanRonWriter {
         nano_ron_schema::write_unit_variant("Choose", s)?;
         s.st_pre()?;
         let inner = d.saturating_add(1);
-        nano_ron_nested::append_optional(alloc, "at", v0, inner, s)?;
+        append_optional(alloc, "at", v0, inner, s)?;
         nano_ron_nested::append_required_within(alloc, "plans", v1, inner, s)?;
         s.st_post(d)
     }
@@ -446,13 +449,7 @@ impl ReadsRon<Plan> for Levels {
         let Some(below) = below.first() else {
             return Err(nano_ron_nested::no_levels(alloc, state));
         };
-        match nano_ron_nested::read_choice_ron_within::<Levels, PlanVariants>(
-            below,
-            left - 1,
-            alloc,
-            state,
-            input,
-        ) {
+        match read_choice_ron_within::<Levels, PlanVariants>(below, left - 1, alloc, state, input) {
             Ok(values) => Ok(Plan::make(values)),
             Err(error) => Err(error),
         }

@@ -6,14 +6,22 @@ ghost use Rattle.nano_text.specs.Outcomes.{Appends, AppendsPart, Unchanged};
 ghost use Rattle.nano_json_schema.specs.Variants.{content_text};
 
 use super::*;
-use nano_bin_nested::{ReadsBin, WritesBin};
+use nano_bin_nested::{
+    ReadsBin, WritesBin, append_part_within, append_variant, append_variant_within, no_memory,
+    read_choice_within,
+};
 use nano_bin_schema::{BinCodec, DeBin, DeBinErr, SerBin};
-use nano_json_nested::{NestedJson, ReadsJson, WritesJson};
+use nano_json_nested::{
+    NestedJson, ReadsJson, WritesJson, append_required_within, no_levels, read_choice_json_within,
+    rollback_on_error, too_deep, write_pair_within, write_variant_other,
+};
 use nano_json_schema::{
     DeJson, DeJsonErr, DeJsonState, JsonCodec, JsonRefs, SerJson, SerJsonState,
 };
 use nano_levels::{Levels, Other, Within};
-use nano_ron_nested::{NestedRon, ReadsRon, WritesRon};
+use nano_ron_nested::{
+    NestedRon, ReadsRon, WritesRon, append_optional, append_required, read_choice_ron_within,
+};
 use nano_ron_schema::{DeRon, DeRonErr, DeRonState, RonCodec, SerRon, SerRonState};
 use nano_schema::{
     Either, EnumSchema, Label, Newtype, Optional, Required, Struct, Tuple, Value, Variant,
@@ -154,21 +162,21 @@ impl WritesBin for Quest {
     fn write_bin(&self, alloc: Global, output: &mut Vec<u8>) -> Result<(), AllocError> {
         let start = output.len();
         match self {
-            Self::Win(first) => nano_bin_nested::append_variant(alloc, 0, first, output),
+            Self::Win(first) => append_variant(alloc, 0, first, output),
             Self::Bring(first, second) => {
-                nano_bin_nested::append_variant(alloc, 1, first, output)?;
-                nano_bin_nested::append_part_within(alloc, second, output, start)
+                append_variant(alloc, 1, first, output)?;
+                append_part_within(alloc, second, output, start)
             }
             Self::All {
                 quests,
                 modes,
                 mode,
             } => {
-                nano_bin_nested::append_variant_within(alloc, 2, quests, output)?;
+                append_variant_within(alloc, 2, quests, output)?;
                 nano_bin::append_part(alloc, modes, output, start)?;
                 nano_bin::append_part(alloc, mode, output, start)
             }
-            Self::Find(first) => nano_bin_nested::append_variant(alloc, 3, first, output),
+            Self::Find(first) => append_variant(alloc, 3, first, output),
         }
     }
 }
@@ -183,14 +191,12 @@ impl ReadsBin<Quest> for Levels {
     #[cycle(read)]
     fn read_bin(&self, alloc: Global, offset: &mut usize, bytes: &[u8]) -> Result<Quest, DeBinErr> {
         let Levels::More(below) = self else {
-            return Err(nano_bin_nested::no_memory(*offset, bytes));
+            return Err(no_memory(*offset, bytes));
         };
         let Some(below) = below.first() else {
-            return Err(nano_bin_nested::no_memory(*offset, bytes));
+            return Err(no_memory(*offset, bytes));
         };
-        nano_bin_nested::read_choice_within::<Levels, Quest, QuestVariants>(
-            below, alloc, offset, bytes,
-        )
+        read_choice_within::<Levels, Quest, QuestVariants>(below, alloc, offset, bytes)
     }
 }
 
@@ -264,9 +270,7 @@ impl QuestJsonWriter {
     {
         s.st_pre()?;
         let inner = d.saturating_add(1);
-        let modes_is_first = nano_json_nested::append_required_within(
-            alloc, "quests", v0, true, inner, s,
-        )?;
+        let modes_is_first = append_required_within(alloc, "quests", v0, true, inner, s)?;
         let mode_is_first = Required::<QuestAllNames<1>, Vec<Mode>>::append_fields(
             &v1,
             alloc,
@@ -321,7 +325,7 @@ impl QuestJsonWriter {
     {
         let start = s.out.len();
         let written = Self::append_all(value, v0, v1, v2, alloc, d, s);
-        nano_json_nested::rollback_on_error(&mut s.out, start, written)
+        rollback_on_error(&mut s.out, start, written)
     }
 }
 
@@ -330,17 +334,17 @@ impl WritesJson for Quest {
     #[tactic(auto, using(crate::proofs::QuestJsonCodecsLaws::quest_json_texts))]
     fn write_json(&self, alloc: Global, d: usize, s: &mut SerJsonState) -> Result<(), AllocError> {
         match self {
-            Self::Win(first) => nano_json_nested::write_variant_other(alloc, "Win", first, d, s),
+            Self::Win(first) => write_variant_other(alloc, "Win", first, d, s),
             Self::Bring(first, second) => {
                 let first = &nano_json_schema::Part { of: first };
-                nano_json_nested::write_pair_within(alloc, "Bring", first, second, d, s)
+                write_pair_within(alloc, "Bring", first, second, d, s)
             }
             Self::All {
                 quests: v0,
                 modes: v1,
                 mode: v2,
             } => QuestJsonWriter::write_all(self, v0, v1, v2, alloc, d, s),
-            Self::Find(first) => nano_json_nested::write_variant_other(alloc, "Find", first, d, s),
+            Self::Find(first) => write_variant_other(alloc, "Find", first, d, s),
         }
     }
 }
@@ -361,15 +365,15 @@ impl ReadsJson<Quest> for Levels {
         input: &mut Chars<'_>,
     ) -> Result<Quest, DeJsonErr> {
         if left == 0 {
-            return Err(nano_json_nested::too_deep(alloc, state));
+            return Err(too_deep(alloc, state));
         }
         let Levels::More(below) = self else {
-            return Err(nano_json_nested::no_levels(alloc, state));
+            return Err(no_levels(alloc, state));
         };
         let Some(below) = below.first() else {
-            return Err(nano_json_nested::no_levels(alloc, state));
+            return Err(no_levels(alloc, state));
         };
-        match nano_json_nested::read_choice_json_within::<Levels, QuestJsonVariants>(
+        match read_choice_json_within::<Levels, QuestJsonVariants>(
             below,
             left - 1,
             alloc,
@@ -439,8 +443,8 @@ impl QuestRonWriter {
         s.st_pre()?;
         let inner = d.saturating_add(1);
         nano_ron_nested::append_required_within(alloc, "quests", v0, inner, s)?;
-        nano_ron_nested::append_required(alloc, "modes", v1, inner, s)?;
-        nano_ron_nested::append_optional(alloc, "mode", v2, inner, s)?;
+        append_required(alloc, "modes", v1, inner, s)?;
+        append_optional(alloc, "mode", v2, inner, s)?;
         s.st_post(d)
     }
 
@@ -510,7 +514,7 @@ impl ReadsRon<Quest> for Levels {
         let Some(below) = below.first() else {
             return Err(nano_ron_nested::no_levels(alloc, state));
         };
-        match nano_ron_nested::read_choice_ron_within::<Levels, QuestVariants>(
+        match read_choice_ron_within::<Levels, QuestVariants>(
             below,
             left - 1,
             alloc,

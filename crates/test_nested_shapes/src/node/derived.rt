@@ -5,14 +5,22 @@ ghost use Rattle.nano_schema.specs.UserTypes.{agreed};
 ghost use Rattle.nano_text.specs.Outcomes.{Appends, AppendsPart};
 
 use super::*;
-use nano_bin_nested::{ReadsBin, WritesBin};
+use nano_bin_nested::{
+    ReadsBin, WritesBin, append_part_within, append_variant, no_memory, read_choice_within,
+    read_record_within,
+};
 use nano_bin_schema::{BinCodec, DeBin, DeBinErr, SerBin};
-use nano_json_nested::{NestedJson, ReadsJson, WritesJson};
+use nano_json_nested::{
+    NestedJson, ReadsJson, WritesJson, append_required_within, no_levels, read_choice_json_within,
+    read_record_json_within, rollback_on_error, too_deep, write_triple_within,
+};
 use nano_json_schema::{
     DeJson, DeJsonErr, DeJsonState, JsonCodec, JsonRefs, SerJson, SerJsonState,
 };
 use nano_levels::{Levels, Other, Within};
-use nano_ron_nested::{NestedRon, ReadsRon, WritesRon};
+use nano_ron_nested::{
+    NestedRon, ReadsRon, WritesRon, append_required, read_choice_ron_within, read_record_ron_within,
+};
 use nano_ron_schema::{DeRon, DeRonErr, DeRonState, RonCodec, SerRon, SerRonState};
 use nano_schema::{
     Either, EnumSchema, Label, Newtype, Required, StructSchema, Tuple, Unit, Value, Variant,
@@ -114,7 +122,7 @@ impl WritesBin for Node {
         nano_bin::append_part(alloc, &self.size, output, start)?;
         nano_bin::append_part(alloc, &self.tags, output, start)?;
         nano_bin::append_part(alloc, &self.effects, output, start)?;
-        nano_bin_nested::append_part_within(alloc, &self.children, output, start)
+        append_part_within(alloc, &self.children, output, start)
     }
 }
 
@@ -128,12 +136,12 @@ impl ReadsBin<Node> for Levels {
     #[cycle(read)]
     fn read_bin(&self, alloc: Global, offset: &mut usize, bytes: &[u8]) -> Result<Node, DeBinErr> {
         let Levels::More(below) = self else {
-            return Err(nano_bin_nested::no_memory(*offset, bytes));
+            return Err(no_memory(*offset, bytes));
         };
         let Some(below) = below.first() else {
-            return Err(nano_bin_nested::no_memory(*offset, bytes));
+            return Err(no_memory(*offset, bytes));
         };
-        nano_bin_nested::read_record_within::<Levels, Node, NodeFields>(below, alloc, offset, bytes)
+        read_record_within::<Levels, Node, NodeFields>(below, alloc, offset, bytes)
     }
 }
 
@@ -220,7 +228,7 @@ impl NodeJsonWriter {
             inner,
             s,
         )?;
-        nano_json_nested::append_required_within(
+        append_required_within(
             alloc,
             "children",
             &value.children,
@@ -237,7 +245,7 @@ impl WritesJson for Node {
     fn write_json(&self, alloc: Global, d: usize, s: &mut SerJsonState) -> Result<(), AllocError> {
         let start = s.out.len();
         let written = NodeJsonWriter::append_record(self, alloc, d, s);
-        nano_json_nested::rollback_on_error(&mut s.out, start, written)
+        rollback_on_error(&mut s.out, start, written)
     }
 }
 
@@ -257,21 +265,15 @@ impl ReadsJson<Node> for Levels {
         input: &mut Chars<'_>,
     ) -> Result<Node, DeJsonErr> {
         if left == 0 {
-            return Err(nano_json_nested::too_deep(alloc, state));
+            return Err(too_deep(alloc, state));
         }
         let Levels::More(below) = self else {
-            return Err(nano_json_nested::no_levels(alloc, state));
+            return Err(no_levels(alloc, state));
         };
         let Some(below) = below.first() else {
-            return Err(nano_json_nested::no_levels(alloc, state));
+            return Err(no_levels(alloc, state));
         };
-        match nano_json_nested::read_record_json_within::<Levels, NodeFields>(
-            below,
-            left - 1,
-            alloc,
-            state,
-            input,
-        ) {
+        match read_record_json_within::<Levels, NodeFields>(below, left - 1, alloc, state, input) {
             Ok(values) => Ok(Node::make(values)),
             Err(error) => Err(error),
         }
@@ -328,11 +330,11 @@ impl NodeRonWriter {
     {
         s.st_pre()?;
         let inner = d.saturating_add(1);
-        nano_ron_nested::append_required(alloc, "name", &value.name, inner, s)?;
-        nano_ron_nested::append_required(alloc, "at", &value.at, inner, s)?;
-        nano_ron_nested::append_required(alloc, "size", &value.size, inner, s)?;
-        nano_ron_nested::append_required(alloc, "tags", &value.tags, inner, s)?;
-        nano_ron_nested::append_required(alloc, "effects", &value.effects, inner, s)?;
+        append_required(alloc, "name", &value.name, inner, s)?;
+        append_required(alloc, "at", &value.at, inner, s)?;
+        append_required(alloc, "size", &value.size, inner, s)?;
+        append_required(alloc, "tags", &value.tags, inner, s)?;
+        append_required(alloc, "effects", &value.effects, inner, s)?;
         nano_ron_nested::append_required_within(alloc, "children", &value.children, inner, s)?;
         s.st_post(d)
     }
@@ -371,13 +373,7 @@ impl ReadsRon<Node> for Levels {
         let Some(below) = below.first() else {
             return Err(nano_ron_nested::no_levels(alloc, state));
         };
-        match nano_ron_nested::read_record_ron_within::<Levels, NodeFields>(
-            below,
-            left - 1,
-            alloc,
-            state,
-            input,
-        ) {
+        match read_record_ron_within::<Levels, NodeFields>(below, left - 1, alloc, state, input) {
             Ok(values) => Ok(Node::make(values)),
             Err(error) => Err(error),
         }
@@ -473,11 +469,11 @@ impl WritesBin for Trail {
     fn write_bin(&self, alloc: Global, output: &mut Vec<u8>) -> Result<(), AllocError> {
         let start = output.len();
         match self {
-            Self::End => nano_bin_nested::append_variant(alloc, 0, &(), output),
+            Self::End => append_variant(alloc, 0, &(), output),
             Self::Through(first, second, third) => {
-                nano_bin_nested::append_variant(alloc, 1, first, output)?;
+                append_variant(alloc, 1, first, output)?;
                 nano_bin::append_part(alloc, second, output, start)?;
-                nano_bin_nested::append_part_within(alloc, third, output, start)
+                append_part_within(alloc, third, output, start)
             }
         }
     }
@@ -493,14 +489,12 @@ impl ReadsBin<Trail> for Levels {
     #[cycle(read)]
     fn read_bin(&self, alloc: Global, offset: &mut usize, bytes: &[u8]) -> Result<Trail, DeBinErr> {
         let Levels::More(below) = self else {
-            return Err(nano_bin_nested::no_memory(*offset, bytes));
+            return Err(no_memory(*offset, bytes));
         };
         let Some(below) = below.first() else {
-            return Err(nano_bin_nested::no_memory(*offset, bytes));
+            return Err(no_memory(*offset, bytes));
         };
-        nano_bin_nested::read_choice_within::<Levels, Trail, TrailVariants>(
-            below, alloc, offset, bytes,
-        )
+        read_choice_within::<Levels, Trail, TrailVariants>(below, alloc, offset, bytes)
     }
 }
 
@@ -544,7 +538,7 @@ impl WritesJson for Trail {
             Self::Through(first, second, third) => {
                 let first = &nano_json_schema::Part { of: first };
                 let second = &nano_json_schema::Part { of: second };
-                nano_json_nested::write_triple_within(alloc, "Through", first, second, third, d, s)
+                write_triple_within(alloc, "Through", first, second, third, d, s)
             }
         }
     }
@@ -566,15 +560,15 @@ impl ReadsJson<Trail> for Levels {
         input: &mut Chars<'_>,
     ) -> Result<Trail, DeJsonErr> {
         if left == 0 {
-            return Err(nano_json_nested::too_deep(alloc, state));
+            return Err(too_deep(alloc, state));
         }
         let Levels::More(below) = self else {
-            return Err(nano_json_nested::no_levels(alloc, state));
+            return Err(no_levels(alloc, state));
         };
         let Some(below) = below.first() else {
-            return Err(nano_json_nested::no_levels(alloc, state));
+            return Err(no_levels(alloc, state));
         };
-        match nano_json_nested::read_choice_json_within::<Levels, TrailJsonVariants>(
+        match read_choice_json_within::<Levels, TrailJsonVariants>(
             below,
             left - 1,
             alloc,
@@ -655,7 +649,7 @@ impl ReadsRon<Trail> for Levels {
         let Some(below) = below.first() else {
             return Err(nano_ron_nested::no_levels(alloc, state));
         };
-        match nano_ron_nested::read_choice_ron_within::<Levels, TrailVariants>(
+        match read_choice_ron_within::<Levels, TrailVariants>(
             below,
             left - 1,
             alloc,

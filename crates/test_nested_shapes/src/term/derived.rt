@@ -6,14 +6,21 @@ ghost use Rattle.nano_text.specs.Outcomes.{Appends, AppendsPart, Unchanged};
 ghost use Rattle.nano_json_schema.specs.Variants.{content_text};
 
 use super::*;
-use nano_bin_nested::{ReadsBin, WritesBin};
+use nano_bin_nested::{
+    ReadsBin, WritesBin, append_part_within, append_variant, append_variant_within, no_memory,
+    read_choice_within,
+};
 use nano_bin_schema::{BinCodec, DeBin, DeBinErr, SerBin};
-use nano_json_nested::{NestedJson, ReadsJson, WritesJson};
+use nano_json_nested::{
+    NestedJson, ReadsJson, WritesJson, append_optional_within, no_levels, read_choice_json_within,
+    rollback_on_error, too_deep, write_pair_within, write_triple_within, write_variant_other,
+    write_variant_within,
+};
 use nano_json_schema::{
     DeJson, DeJsonErr, DeJsonState, JsonCodec, JsonRefs, SerJson, SerJsonState,
 };
 use nano_levels::{Levels, Other, Within};
-use nano_ron_nested::{NestedRon, ReadsRon, WritesRon};
+use nano_ron_nested::{NestedRon, ReadsRon, WritesRon, append_required, read_choice_ron_within};
 use nano_ron_schema::{DeRon, DeRonErr, DeRonState, RonCodec, SerRon, SerRonState};
 use nano_schema::{
     Either, EnumSchema, Label, Newtype, Optional, Required, Struct, Tuple, Unit, Value, Variant,
@@ -140,20 +147,20 @@ impl WritesBin for Term {
     fn write_bin(&self, alloc: Global, output: &mut Vec<u8>) -> Result<(), AllocError> {
         let start = output.len();
         match self {
-            Self::Number(first) => nano_bin_nested::append_variant(alloc, 0, first, output),
+            Self::Number(first) => append_variant(alloc, 0, first, output),
             Self::Call(first, second) => {
-                nano_bin_nested::append_variant(alloc, 1, first, output)?;
-                nano_bin_nested::append_part_within(alloc, second, output, start)
+                append_variant(alloc, 1, first, output)?;
+                append_part_within(alloc, second, output, start)
             }
             Self::If(first, second, third) => {
-                nano_bin_nested::append_variant_within(alloc, 2, first, output)?;
-                nano_bin_nested::append_part_within(alloc, second, output, start)?;
-                nano_bin_nested::append_part_within(alloc, third, output, start)
+                append_variant_within(alloc, 2, first, output)?;
+                append_part_within(alloc, second, output, start)?;
+                append_part_within(alloc, third, output, start)
             }
             Self::Repeat(first, second, third) => {
-                nano_bin_nested::append_variant(alloc, 3, first, output)?;
+                append_variant(alloc, 3, first, output)?;
                 nano_bin::append_part(alloc, second, output, start)?;
-                nano_bin_nested::append_part_within(alloc, third, output, start)
+                append_part_within(alloc, third, output, start)
             }
         }
     }
@@ -169,14 +176,12 @@ impl ReadsBin<Term> for Levels {
     #[cycle(read_term_bin)]
     fn read_bin(&self, alloc: Global, offset: &mut usize, bytes: &[u8]) -> Result<Term, DeBinErr> {
         let Levels::More(below) = self else {
-            return Err(nano_bin_nested::no_memory(*offset, bytes));
+            return Err(no_memory(*offset, bytes));
         };
         let Some(below) = below.first() else {
-            return Err(nano_bin_nested::no_memory(*offset, bytes));
+            return Err(no_memory(*offset, bytes));
         };
-        nano_bin_nested::read_choice_within::<Levels, Term, TermVariants>(
-            below, alloc, offset, bytes,
-        )
+        read_choice_within::<Levels, Term, TermVariants>(below, alloc, offset, bytes)
     }
 }
 
@@ -227,20 +232,18 @@ impl WritesJson for Term {
     #[tactic(auto, using(crate::proofs::TermJsonCodecsLaws::term_json_texts))]
     fn write_json(&self, alloc: Global, d: usize, s: &mut SerJsonState) -> Result<(), AllocError> {
         match self {
-            Self::Number(first) => {
-                nano_json_nested::write_variant_other(alloc, "Number", first, d, s)
-            }
+            Self::Number(first) => write_variant_other(alloc, "Number", first, d, s),
             Self::Call(first, second) => {
                 let first = &nano_json_schema::Part { of: first };
-                nano_json_nested::write_pair_within(alloc, "Call", first, second, d, s)
+                write_pair_within(alloc, "Call", first, second, d, s)
             }
             Self::If(first, second, third) => {
-                nano_json_nested::write_triple_within(alloc, "If", first, second, third, d, s)
+                write_triple_within(alloc, "If", first, second, third, d, s)
             }
             Self::Repeat(first, second, third) => {
                 let first = &nano_json_schema::Part { of: first };
                 let second = &nano_json_schema::Part { of: second };
-                nano_json_nested::write_triple_within(alloc, "Repeat", first, second, third, d, s)
+                write_triple_within(alloc, "Repeat", first, second, third, d, s)
             }
         }
     }
@@ -262,15 +265,15 @@ impl ReadsJson<Term> for Levels {
         input: &mut Chars<'_>,
     ) -> Result<Term, DeJsonErr> {
         if left == 0 {
-            return Err(nano_json_nested::too_deep(alloc, state));
+            return Err(too_deep(alloc, state));
         }
         let Levels::More(below) = self else {
-            return Err(nano_json_nested::no_levels(alloc, state));
+            return Err(no_levels(alloc, state));
         };
         let Some(below) = below.first() else {
-            return Err(nano_json_nested::no_levels(alloc, state));
+            return Err(no_levels(alloc, state));
         };
-        match nano_json_nested::read_choice_json_within::<Levels, TermJsonVariants>(
+        match read_choice_json_within::<Levels, TermJsonVariants>(
             below,
             left - 1,
             alloc,
@@ -361,13 +364,7 @@ impl ReadsRon<Term> for Levels {
         let Some(below) = below.first() else {
             return Err(nano_ron_nested::no_levels(alloc, state));
         };
-        match nano_ron_nested::read_choice_ron_within::<Levels, TermVariants>(
-            below,
-            left - 1,
-            alloc,
-            state,
-            input,
-        ) {
+        match read_choice_ron_within::<Levels, TermVariants>(below, left - 1, alloc, state, input) {
             Ok(values) => Ok(Term::make(values)),
             Err(error) => Err(error),
         }
@@ -493,12 +490,12 @@ impl WritesBin for Argument {
     fn write_bin(&self, alloc: Global, output: &mut Vec<u8>) -> Result<(), AllocError> {
         let start = output.len();
         match self {
-            Self::Plain(first) => nano_bin_nested::append_variant_within(alloc, 0, first, output),
+            Self::Plain(first) => append_variant_within(alloc, 0, first, output),
             Self::Named { name, value } => {
-                nano_bin_nested::append_variant(alloc, 1, name, output)?;
-                nano_bin_nested::append_part_within(alloc, value, output, start)
+                append_variant(alloc, 1, name, output)?;
+                append_part_within(alloc, value, output, start)
             }
-            Self::Rest => nano_bin_nested::append_variant(alloc, 2, &(), output),
+            Self::Rest => append_variant(alloc, 2, &(), output),
         }
     }
 }
@@ -517,9 +514,7 @@ impl ReadsBin<Argument> for Levels {
         offset: &mut usize,
         bytes: &[u8],
     ) -> Result<Argument, DeBinErr> {
-        nano_bin_nested::read_choice_within::<Levels, Argument, ArgumentVariants>(
-            self, alloc, offset, bytes,
-        )
+        read_choice_within::<Levels, Argument, ArgumentVariants>(self, alloc, offset, bytes)
     }
 }
 
@@ -578,7 +573,7 @@ impl ArgumentJsonWriter {
         let value_is_first = Required::<ArgumentNamedNames<0>, String>::append_fields(
             &v0, alloc, true, inner, s,
         )?;
-        nano_json_nested::append_optional_within(alloc, "value", v1, value_is_first, inner, s)?;
+        append_optional_within(alloc, "value", v1, value_is_first, inner, s)?;
         s.st_post(d)
     }
 
@@ -623,7 +618,7 @@ impl ArgumentJsonWriter {
     {
         let start = s.out.len();
         let written = Self::append_named(value, v0, v1, alloc, d, s);
-        nano_json_nested::rollback_on_error(&mut s.out, start, written)
+        rollback_on_error(&mut s.out, start, written)
     }
 }
 
@@ -632,9 +627,7 @@ impl WritesJson for Argument {
     #[tactic(auto, using(crate::proofs::TermJsonCodecsLaws::argument_json_texts))]
     fn write_json(&self, alloc: Global, d: usize, s: &mut SerJsonState) -> Result<(), AllocError> {
         match self {
-            Self::Plain(first) => {
-                nano_json_nested::write_variant_within(alloc, "Plain", first, d, s)
-            }
+            Self::Plain(first) => write_variant_within(alloc, "Plain", first, d, s),
             Self::Named {
                 name: v0,
                 value: v1,
@@ -659,9 +652,7 @@ impl ReadsJson<Argument> for Levels {
         state: &mut DeJsonState,
         input: &mut Chars<'_>,
     ) -> Result<Argument, DeJsonErr> {
-        match nano_json_nested::read_choice_json_within::<Levels, ArgumentVariants>(
-            self, left, alloc, state, input,
-        ) {
+        match read_choice_json_within::<Levels, ArgumentVariants>(self, left, alloc, state, input) {
             Ok(values) => Ok(Argument::make(values)),
             Err(error) => Err(error),
         }
@@ -723,7 +714,7 @@ impl ArgumentRonWriter {
         nano_ron_schema::write_unit_variant("Named", s)?;
         s.st_pre()?;
         let inner = d.saturating_add(1);
-        nano_ron_nested::append_required(alloc, "name", v0, inner, s)?;
+        append_required(alloc, "name", v0, inner, s)?;
         nano_ron_nested::append_optional_within(alloc, "value", v1, inner, s)?;
         s.st_post(d)
     }
@@ -781,9 +772,7 @@ impl ReadsRon<Argument> for Levels {
         state: &mut DeRonState,
         input: &mut Chars<'_>,
     ) -> Result<Argument, DeRonErr> {
-        match nano_ron_nested::read_choice_ron_within::<Levels, ArgumentVariants>(
-            self, left, alloc, state, input,
-        ) {
+        match read_choice_ron_within::<Levels, ArgumentVariants>(self, left, alloc, state, input) {
             Ok(values) => Ok(Argument::make(values)),
             Err(error) => Err(error),
         }
