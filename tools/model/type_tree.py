@@ -55,7 +55,7 @@ ALIASES = {
     "Visits": "BTreeMap<UserId, u32>", "Greetings": "HashMap<Role, String>",
     "Point": "(i32, i32, String)", "Entry": "(u64, Option<String>, Point, bool)",
     "Segment": "(u8, String, Option<u16>, Vec<i32>, bool)", "Reply": "Reply<i32, String>",
-    "Cells": "(i32, Option<i32>, Vec<i32>, (i32, u8), String, (), i64, i32)", "Tagged": "Tagged<i32, String>",
+    "Cells": "(i32, Option<i32>, Vec<i32>, (i32, u8), String, (), [i64; 1], i32)", "Tagged": "Tagged<i32, String>",
 }
 
 # The types of the tables in docs/FORMATS.md. A field is `name|alias: type`, and its default if it has one. A skipped

@@ -199,7 +199,7 @@ def drawn_nested(draw, name, formats, words):
             parts = drawn_parts(draw, name, places)
             lines.append(f"    {variant}({', '.join(parts)}),")
         else:
-            names = draw.sample(words, draw.randrange(1 if in_text else 0, 4))
+            names = draw.sample(words, draw.randrange(1, 4))
             fields = drawn_nested_fields(draw, name, names, "    ")
             lines += [f"    {variant} {{", *fields, "    },"]
     return lines + ["}", *around]

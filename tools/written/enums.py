@@ -68,9 +68,9 @@ def compare_made(owner, variants, schema):
     """Each variant is made of its content, which is taken apart in its order."""
     lines = schema.partition("-> Self {\n")[2]
     for index, (name, _attributes, kind, fields) in enumerate(variants):
-        is_alone_or_first = index + 1 < len(variants) or index == 0
+        is_last_of_several = 0 < index == len(variants) - 1
         before, _made, lines = lines.partition(f"Self::{name}")
-        taken = taken_apart(before, "values" if is_alone_or_first else "later")
+        taken = taken_apart(before, "later" if is_last_of_several else "values")
         if kind == "Struct":
             wanted = [field.name for field in fields if field.is_in_row()]
             same(f"what `{owner}::{name}` is made from", wanted, taken)

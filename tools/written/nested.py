@@ -8,8 +8,8 @@ from .impls import LABEL, parts_of
 
 def without_levels(impls, names, fields, row):
     """A row without what stands around each part: `Within` where it holds one of these types."""
-    inner, parts = [], [] if row == "Unit" else parts_of(impls.expanded(row))
-    same(f"number of parts of a type within {names}", len(fields), len(parts))
+    inner, parts = [], [] if row in ("Unit", "Other<Unit>") else parts_of(impls.expanded(row))
+    same(f"number of parts of `{row}`", len(fields), len(parts))
     for field, written in zip(fields, parts):
         around = re.fullmatch(r"(Within|Other)<(.*)>", written)
         if not around:

@@ -7,6 +7,7 @@ use crate::layout::{Brackets, Items, Piece, list};
 use crate::records::values_of_row;
 use crate::seen::{Seen, append_seen};
 use crate::sheet::Sheet;
+use crate::taking::is_array;
 use crate::target::Target;
 use crate::types::type_text;
 use crate::variants::{PARTS, bracketed};
@@ -68,25 +69,61 @@ fn append_wide<'a>(
     let before = target.row.len().saturating_add("type  = ".len());
     let row = first_and_others(alloc, &schemas, Items::Types, (0, before, 1))?;
     sheet.alias(target.row.as_str(), row.laid.as_str());
-    let seen = wide_seen(sheet, target, parts.len())?;
+    let seen = wide_seen(sheet, target, parts)?;
     append_seen(sheet, target, &seen)?;
     append_codecs(sheet, target, &RECORD, &WIDE)
 }
 
-/// The struct of so many parts as the first of them and the others.
-fn wide_seen<'a>(sheet: &mut Sheet, target: &Target<'a>, count: usize) -> Result<Seen, AllocError> {
-    let alloc = sheet.alloc;
+/// The struct of these parts as the first of them and the others.
+fn wide_seen<'a>(
+    sheet: &mut Sheet,
+    target: &Target<'a>,
+    parts: &[Type<'a>],
+) -> Result<Seen, AllocError> {
+    let (alloc, count) = (sheet.alloc, parts.len());
     let names = named(alloc, "", &PARTS, count)?;
     let places = named(alloc, "x.", &PLACES, count)?;
     let borrowed = named(alloc, "&self.", &PLACES, count)?;
-    let pattern = first_and_others(alloc, &names, Items::Patterns, (8, 12, 10))?;
     Ok(Seen {
         types: values_of_row(sheet, target)?,
         view: first_and_others(alloc, &places, Items::Patterns, (0, 0, 0))?.flat,
-        taken: format!(in alloc; "        let {} = values;\n", pattern.laid)?,
+        taken: wide_taken(alloc, parts, &names)?,
         made: made(alloc, target, &names)?,
         borrowed: first_and_others(alloc, &borrowed, Items::Values, (8, 8, 0))?.laid,
     })
+}
+
+/// Lines that take the first part and the others apart: by one pattern, or step by step where a part
+/// is an array.
+fn wide_taken<'a>(
+    alloc: Global,
+    parts: &[Type<'a>],
+    names: &[String],
+) -> Result<String, AllocError> {
+    let mut has_array = false;
+    for part in parts {
+        has_array = has_array || is_array(*part);
+    }
+    if !has_array {
+        let pattern = first_and_others(alloc, names, Items::Patterns, (8, 12, 10))?;
+        return format!(in alloc; "        let {} = values;\n", pattern.laid);
+    }
+    let mut lines = String::new(alloc);
+    let mut whole = String::from_str(alloc, "values")?;
+    for (i, pair) in names.windows(2).enumerate() {
+        if let [first, second] = pair {
+            let is_last = i.saturating_add(2) == names.len();
+            let others = if is_last {
+                second.clone()?
+            } else {
+                format!(in alloc; "from_{second}")?
+            };
+            let line = format!(in alloc; "        let ({first}, {others}) = {whole};\n")?;
+            lines.push_str(line.as_str())?;
+            whole = others;
+        }
+    }
+    Ok(lines)
 }
 
 /// Texts as pairs of the first and the others, on a line that is indented so far, after so many

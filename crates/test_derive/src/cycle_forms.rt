@@ -36,16 +36,14 @@ type AVariants2 = Variant<ANames<1>, Within<Newtype<Vec<D>>>>;
 =>
     #[cycle(read_a_bin)]
     fn read_bin(&self, alloc: Global, offset: &mut usize, bytes: &[u8]) -> Result<D, DeBinErr> {
-        nano_bin_nested::read_record_within::<Levels, D, DFields>(self, alloc, offset, bytes)
+        read_record_within::<Levels, D, DFields>(self, alloc, offset, bytes)
     }
 =>
         let levels = Levels::at_most(9);
 =>
-            return Err(nano_json_nested::too_many_levels(alloc, 9, state));
+            return Err(too_many_levels(alloc, 9, state));
 =>
-        match nano_json_nested::read_record_json_within::<Levels, EFields>(
-            self, left, alloc, state, input,
-        ) {
+        match read_record_json_within::<Levels, EFields>(self, left, alloc, state, input) {
 =>
         ReadsJson::<Self>::read_json(levels, 9, alloc, state, input)
 "#;

@@ -30,7 +30,7 @@ type AFields = (
         )?;
         Required::<ANames<2>, String>::append_fields(&&value.c, alloc, c_is_first, inner, s)?;
 =>
-        nano_ron_nested::append_required(alloc, "b", &value.b, inner, s)?;
+        append_required(alloc, "b", &value.b, inner, s)?;
 "#;
 
 /// Lines of the files beside the sources.

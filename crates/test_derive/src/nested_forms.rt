@@ -37,14 +37,14 @@ type AVariants = (Variant<ANames<0>, Other<Unit>>, AVariants2);
     #[tactic(auto, using(crate::proofs::ShapesCodecsLaws::a_written_laws))]
     fn write_bin(&self, alloc: Global, output: &mut Vec<u8>) -> Result<(), AllocError> {
 =>
-            Self::B => nano_bin_nested::append_variant(alloc, 0, &(), output),
-            Self::C(first) => nano_bin_nested::append_variant(alloc, 1, first, output),
+            Self::B => append_variant(alloc, 0, &(), output),
+            Self::C(first) => append_variant(alloc, 1, first, output),
             Self::D(first, second) => {
-                nano_bin_nested::append_variant_within(alloc, 2, first, output)?;
+                append_variant_within(alloc, 2, first, output)?;
                 nano_bin::append_part(alloc, second, output, start)
             }
 =>
-        nano_bin_nested::read_choice_within::<Levels, A, AVariants>(below, alloc, offset, bytes)
+        read_choice_within::<Levels, A, AVariants>(below, alloc, offset, bytes)
 ----
 // nanoserde: bin
 struct A {
@@ -70,9 +70,9 @@ type AFields = (
 =>
         let start = output.len();
         SerBin::ser_bin(&self.a, alloc, output)?;
-        nano_bin_nested::append_part_within(alloc, &self.b, output, start)
+        append_part_within(alloc, &self.b, output, start)
 =>
-        nano_bin_nested::read_record_within::<Levels, A, AFields>(below, alloc, offset, bytes)
+        read_record_within::<Levels, A, AFields>(below, alloc, offset, bytes)
 =>
         nano_bin_schema::write_record_bin::<Self, BFields>(self, alloc, output)
 ----
@@ -89,9 +89,9 @@ enum A {
         let levels = Levels::at_most(64);
         ReadsBin::<Self>::read_bin(levels, alloc, offset, bytes)
 =>
-            return Err(nano_json_nested::too_many_levels(alloc, 64, state));
+            return Err(too_many_levels(alloc, 64, state));
 =>
-            return Err(nano_ron_nested::too_many_levels(alloc, 64, state));
+            return Err(too_many_levels(alloc, 64, state));
 =>
         let levels = Levels::most();
         ReadsJson::<Self>::read_json(levels, 64, alloc, state, input)
@@ -109,10 +109,8 @@ impl AJsonWriter {
     ) -> Result<(), AllocError>
         requires { value.now ≡ A-B v0.now v1.now }
 =>
-        let right_is_first = nano_json_nested::append_required_within(
-            alloc, "l", v0, true, inner, s,
-        )?;
-        nano_json_nested::append_required_within(alloc, "right", v1, right_is_first, inner, s)?;
+        let right_is_first = append_required_within(alloc, "l", v0, true, inner, s)?;
+        append_required_within(alloc, "right", v1, right_is_first, inner, s)?;
 =>
             Self::B {
                 left: v0,
@@ -129,16 +127,14 @@ enum A {
     VariantWhoseNameIsSoLongThatItsCallIsCut(Box<A>, Vec<A>),
 }
 =>
-            Self::B(first, second) => {
-                nano_ron_nested::write_pair_within(alloc, "B", first, second, d, s)
-            }
+            Self::B(first, second) => write_pair_within(alloc, "B", first, second, d, s),
             Self::C(first, second) => {
                 let first = &nano_ron_schema::Part { of: first };
-                nano_ron_nested::write_pair_within(alloc, "C", first, second, d, s)
+                write_pair_within(alloc, "C", first, second, d, s)
             }
             Self::D => nano_ron_schema::write_unit_variant("D", s),
 =>
-                nano_ron_nested::write_pair_within(
+                write_pair_within(
                     alloc,
                     "VariantWhoseNameIsSoLongThatItsCallIsCut",
                     first,

@@ -14,10 +14,10 @@ type ACParts = (
 =>
             Self::C(first, second, third) => {
                 let first = &nano_json_schema::Part { of: first };
-                nano_json_nested::write_triple_within(alloc, "C", first, second, third, d, s)
+                write_triple_within(alloc, "C", first, second, third, d, s)
             }
 =>
-                nano_ron_nested::write_triple_within(alloc, "C", first, second, third, d, s)
+                write_triple_within(alloc, "C", first, second, third, d, s)
 ----
 // nanoserde: bin
 #[cycle(a)]
@@ -33,7 +33,7 @@ enum A {
     E,
 }
 =>
-        nano_bin_nested::read_choice_within::<Levels, A, AVariants>(self, alloc, offset, bytes)
+        read_choice_within::<Levels, A, AVariants>(self, alloc, offset, bytes)
 =>
     #[cycle(read_b_bin)]
 ----
@@ -51,9 +51,7 @@ enum A {
     F { b: Vec<B> },
 }
 =>
-        match nano_json_nested::read_choice_json_within::<Levels, AVariants>(
-            self, left, alloc, state, input,
-        ) {
+        match read_choice_json_within::<Levels, AVariants>(self, left, alloc, state, input) {
 =>
             ((a_json_content_f.codec b_json).canonical.text d v0.now)) }
 ----

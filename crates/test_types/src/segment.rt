@@ -15,7 +15,7 @@ pub struct Cells<T>(
     pub (T, u8),
     pub String,
     pub (),
-    pub i64,
+    pub [i64; 1],
     pub Box<T>,
 );
 

@@ -12,7 +12,9 @@ use crate::output::nested_writes::{write_arms, write_fields};
 use derive_impls::layout::{Brackets, Items, Piece, list};
 use derive_impls::sheet::Sheet;
 use derive_impls::target::Target;
-use derive_syntax::{Case, Cycle, Definition, Fault, Field, Holes, Shape, Source, Variant};
+use derive_syntax::{
+    Case, Content, Cycle, Definition, Fault, Field, Holes, Shape, Source, Variant,
+};
 use std::alloc::{AllocError, Global};
 
 /// What differs between structs and enums.
@@ -84,12 +86,29 @@ fn append_record<'a>(
     Ok(())
 }
 
+const NO_FIELDS: &str =
+    "has braces with nothing between them, which no variant has of an enum that \
+    contains itself: leave them out";
+
+/// An error at a variant that has braces with nothing between them.
+fn check_contents<'a>(variants: &[Variant<'a>]) -> Result<(), Fault> {
+    for variant in variants {
+        if let Content::Fields(fields) = &variant.content {
+            if fields.is_empty() {
+                return Err(variant.name.fault(NO_FIELDS));
+            }
+        }
+    }
+    Ok(())
+}
+
 /// Appends the impls of an enum.
 fn append_choice<'a>(
     sheet: &mut Sheet,
     target: &Target<'a>,
     variants: &[Variant<'a>],
 ) -> Result<(), Fault> {
+    check_contents(variants)?;
     let attributes = target.attributes;
     let row = append_choice_row(sheet, target, variants)?;
     let known = known_arms(sheet, variants)?;

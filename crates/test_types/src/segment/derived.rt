@@ -124,7 +124,7 @@ type CellsFields<T> = (
                 Newtype<(T, u8)>,
                 (
                     Newtype<String>,
-                    (Newtype<()>, (Newtype<i64>, Newtype<Box<T>>)),
+                    (Newtype<()>, (Newtype<[i64; 1]>, Newtype<Box<T>>)),
                 ),
             ),
         ),
@@ -137,7 +137,13 @@ impl<T: Value> StructSchema for Cells<T> {
     ghost view = { λ x. (x.0, (x.1, (x.2, (x.3, (x.4, (x.5, (x.6, x.7))))))) };
 
     fn make(values: Self::Values) -> Self {
-        let (first, (second, (third, (fourth, (fifth, (sixth, (seventh, eighth))))))) = values;
+        let (first, from_second) = values;
+        let (second, from_third) = from_second;
+        let (third, from_fourth) = from_third;
+        let (fourth, from_fifth) = from_fourth;
+        let (fifth, from_sixth) = from_fifth;
+        let (sixth, from_seventh) = from_sixth;
+        let (seventh, eighth) = from_seventh;
         Cells(first, second, third, fourth, fifth, sixth, seventh, eighth)
     }
 }
@@ -177,8 +183,9 @@ impl<T: BinCodec> BinCodec for Cells<T> {
         ⟦<u8 as Value>⟧.legal})) (λ x. (x.0, x.1))) (pair_agrees (agreed {means =
         ⟦<String as Value>⟧.means} {legal = ⟦<String as Value>⟧.legal}) (pair_agrees (agreed
         {means = ⟦<() as Value>⟧.means} {legal = ⟦<() as Value>⟧.legal}) (pair_agrees (agreed
-        {means = ⟦<i64 as Value>⟧.means} {legal = ⟦<i64 as Value>⟧.legal}) (seen_agrees T.agrees
-        (λ x. x.value))))))))) (λ x. (x.0, (x.1, (x.2, (x.3, (x.4, (x.5, (x.6, x.7)))))))) };
+        {means = ⟦<[i64; 1] as Value>⟧.means} {legal = ⟦<[i64; 1] as Value>⟧.legal}) (seen_agrees
+        T.agrees (λ x. x.value))))))))) (λ x.
+        (x.0, (x.1, (x.2, (x.3, (x.4, (x.5, (x.6, x.7)))))))) };
 }
 
 impl<T: SerBin> SerBin for Cells<T> {
@@ -220,8 +227,9 @@ impl<T: JsonCodec> JsonCodec for Cells<T> {
         ⟦<u8 as Value>⟧.legal})) (λ x. (x.0, x.1))) (pair_agrees (agreed {means =
         ⟦<String as Value>⟧.means} {legal = ⟦<String as Value>⟧.legal}) (pair_agrees (agreed
         {means = ⟦<() as Value>⟧.means} {legal = ⟦<() as Value>⟧.legal}) (pair_agrees (agreed
-        {means = ⟦<i64 as Value>⟧.means} {legal = ⟦<i64 as Value>⟧.legal}) (seen_agrees T.agrees
-        (λ x. x.value))))))))) (λ x. (x.0, (x.1, (x.2, (x.3, (x.4, (x.5, (x.6, x.7)))))))) };
+        {means = ⟦<[i64; 1] as Value>⟧.means} {legal = ⟦<[i64; 1] as Value>⟧.legal}) (seen_agrees
+        T.agrees (λ x. x.value))))))))) (λ x.
+        (x.0, (x.1, (x.2, (x.3, (x.4, (x.5, (x.6, x.7)))))))) };
 }
 
 impl<T: SerJson> SerJson for Cells<T> {
@@ -259,8 +267,9 @@ impl<T: RonCodec> RonCodec for Cells<T> {
         ⟦<u8 as Value>⟧.legal})) (λ x. (x.0, x.1))) (pair_agrees (agreed {means =
         ⟦<String as Value>⟧.means} {legal = ⟦<String as Value>⟧.legal}) (pair_agrees (agreed
         {means = ⟦<() as Value>⟧.means} {legal = ⟦<() as Value>⟧.legal}) (pair_agrees (agreed
-        {means = ⟦<i64 as Value>⟧.means} {legal = ⟦<i64 as Value>⟧.legal}) (seen_agrees T.agrees
-        (λ x. x.value))))))))) (λ x. (x.0, (x.1, (x.2, (x.3, (x.4, (x.5, (x.6, x.7)))))))) };
+        {means = ⟦<[i64; 1] as Value>⟧.means} {legal = ⟦<[i64; 1] as Value>⟧.legal}) (seen_agrees
+        T.agrees (λ x. x.value))))))))) (λ x.
+        (x.0, (x.1, (x.2, (x.3, (x.4, (x.5, (x.6, x.7)))))))) };
 }
 
 impl<T: SerRon> SerRon for Cells<T> {
