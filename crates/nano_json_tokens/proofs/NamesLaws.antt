@@ -160,9 +160,9 @@ utf8_name name h =
     let itself = list_all stands_as_itself cs in
     let parts = and_parts (scalars cs) (same && itself) h in
     let rest = and_parts same itself parts.1 in
-    let spelled = (bytes_eq-Decides (bytes_of cs) name).0 rest.0 in
+    let encoded = (bytes_eq-Decides (bytes_of cs) name).0 rest.0 in
     record {
-      utf8 = (cs, (parts.0, sym (all_same_bytes cs) ∙ spelled));
+      utf8 = (cs, (parts.0, sym (all_same_bytes cs) ∙ encoded));
       themselves =
           subst (λ ds. list_all stands_as_itself ds ≡ true) (same_characters name) rest.1;
     }

@@ -32,7 +32,7 @@ abbrev pub bytes_of : List ℕ → List ℕ
 bytes_of [] = []
 bytes_of (c ∷ cs) = character_bytes c ++ bytes_of cs
 
--- the characters that bytes spell
+-- the characters of bytes of UTF-8
 abbrev pub characters : List ℕ → List ℕ
 characters [] = []
 characters (b ∷ bs) = chars_after (continuation_len b) (lead_bits b) bs
