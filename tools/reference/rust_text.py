@@ -53,6 +53,18 @@ def parameters_of(head):
     return found, after.group(1) if after else "()"
 
 
+def trait_before(tokens, at):
+    """The trait of an associated type that stands here, after `<X as Trait>::`, if one does."""
+    texts, depth = [text for _, text in tokens[:at] if text.strip()], 0
+    if texts[-2:] != [">", "::"]:
+        return None
+    for place in range(len(texts) - 2, -1, -1):
+        depth += (texts[place] == ">") - (texts[place] == "<")
+        if texts[place] == "as" and depth == 1:
+            return texts[place + 1]
+    return None
+
+
 class RustText:
     """Writes items of one file, in a trait or an impl or outside of both."""
 
@@ -115,7 +127,7 @@ class RustText:
             elif before[-2:-1] and before[-2] in ("fn", "trait", "struct", "enum", "type", "const"):
                 out.append(span("h", word))
             else:
-                self.word(path, known, out, tokens[at + 1:at + 3])
+                self.word(path, known, out, tokens[at + 1:at + 3], trait_before(tokens, first))
             at += 1
             if at + 1 < len(tokens) and tokens[at][1] == "::" and tokens[at + 1][0] == "word":
                 out.append("::")
@@ -123,10 +135,12 @@ class RustText:
             else:
                 return at
 
-    def word(self, path, known, out, rest):
-        """Writes a word of a path, before the rest of the tokens."""
+    def word(self, path, known, out, rest, of_trait=None):
+        """Writes a word of a path, which is one of a trait or begins it, before the rest of the tokens."""
         word = path[-1]
         target = known.get(word) if len(path) == 1 else None
+        if len(path) == 1 and of_trait:
+            target = self.resolver.member_of(self.file, [of_trait], word)
         if len(path) > 1 and path[0] in known:
             bounds = known[path[0]].inner
             target = self.resolver.member_of(self.file, bounds, word) if bounds else None
