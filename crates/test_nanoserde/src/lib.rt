@@ -20,4 +20,6 @@ mod show_source;
 #[cfg(test)]
 mod show_tests;
 #[cfg(test)]
+mod skipped_tests;
+#[cfg(test)]
 mod type_checks;
