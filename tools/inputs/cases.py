@@ -1,7 +1,7 @@
 """A case drawn at random: the columns FORMAT, TYPE and INPUT of a row. Its type is one that a table names."""
 import pathlib
 
-from model.type_tree import parse
+from model.type_tree import has, parse
 from model.words import TYPES as WORDS
 
 from . import binary_code, damage, states, texts, toml_text
@@ -44,7 +44,7 @@ def case(draw):
     alone = {"bin": BYTES_ALONE, "bin-whole": BYTES_ALONE, "json": JSON_ALONE, "json-whole": JSON_ALONE}
     share = 0.2 if source == "bin" else 0.04
     name = draw.pick(alone[form]) if form in alone and draw.chance(share) else draw.pick(TYPES)
-    if "Json" in name:  # it has no RON
+    if not has(name, "ron"):
         form, source = form.replace("ron", "json"), source.replace("ron", "json")
     data = given(draw, source, lambda: good(draw, source, parse(name)))
     if source == "bin" and name == "Vec<()>":
