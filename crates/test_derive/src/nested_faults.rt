@@ -27,6 +27,13 @@ enum A {
 => 3:5: `B` has braces with nothing between them, which no variant has in JSON and RON
 ----
 // nanoserde: bin
+enum A {
+    B {},
+    C(Vec<A>),
+}
+=> 3:5: `B` has braces with nothing between them, which no variant has of an enum that contains itself
+----
+// nanoserde: bin
 struct A<T> {
     a: Vec<A>,
     b: T,
