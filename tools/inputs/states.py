@@ -6,7 +6,7 @@ HELPERS = {
             "whole_field next_str is_null is_block_close is_curly_close i64_range u64_range_3 "
             "i64_range_-5_5 as_bool as_string next fail err_token".split(),
     "ron": "colon ident block_open block_close curly_open curly_close paren_open paren_close eat_comma_block "
-           "eat_comma_curly eat_comma_paren next_colon next_ident is_none is_block_close is_curly_close "
+           "eat_comma_curly eat_comma_paren next_colon whole_field next_ident is_none is_block_close is_curly_close "
            "is_paren_close i64_range u64_range_3 i64_range_-5_5 as_bool as_string next fail "
            "err_token".split(),
 }

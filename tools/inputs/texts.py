@@ -62,16 +62,16 @@ class Spelling:
         end = "," if items and self.draw.chance(0.15) else ""
         return opening + "".join(commas) + self.gap() + end + self.gap() + closing
 
-    def fields_of(self, fields):
+    def fields_of(self, kind):
         """Fields in any order, some twice; one that can be missing may be."""
         spelled = []
-        for field in fields:
+        for field in kind.fields:
             names = [field.name, *field.aliases]
             if not self.draw.chance(0.02 if field.kind == "required" else 0.35):
                 spelled.append(self.field(self.draw.pick(names), self.value(field.type)))
             if self.draw.chance(0.08):
                 spelled.append(self.field(self.draw.pick(names), self.value(field.type)))
-        if self.draw.chance(self.other_fields):
+        if self.draw.chance(0.5 if "allow_unknown" in kind.above else self.other_fields):
             spelled.append(self.other_field())
         if self.draw.chance(0.4):
             self.draw.rng.shuffle(spelled)
@@ -80,11 +80,25 @@ class Spelling:
     def field(self, name, value):
         return f"{self.gap()}{self.name_of(name)}{self.gap()}:{value}"
 
+    def other_field(self):
+        return self.field(self.draw.pick(self.others), self.gap() + self.skipped(3))
+
+    def skipped(self, depth):
+        """A field that is skipped: a token, or brackets of any kind with any tokens between."""
+        draw = self.draw
+        if depth == 0 or draw.chance(0.5):
+            numbers = "1", "-1", "0.5", "1e5", draw.float()
+            return draw.pick((*self.words, *numbers, "true", draw.quoted(draw.text())))
+        inner = [self.gap() + (self.skipped(depth - 1) if draw.chance(0.6) else draw.pick(",:"))
+                 for _ in range(draw.below(4))]
+        return draw.pick(self.opening) + ",".join(inner) + self.gap() + draw.pick(self.closing)
+
 
 class Json(Spelling):
     """JSON."""
 
     none, tuple, other_fields = "null", "[]", 0.25
+    others, words, opening, closing = ("q", "", "valu", "values", "none"), ("null",), "[{", "]}"
 
     def of_unit(self, _):
         return "null"
@@ -93,7 +107,7 @@ class Json(Spelling):
         return f'"{name}"' if self.draw.chance(0.95) else self.draw.quoted(name)
 
     def of_struct(self, kind):
-        return self.between("{", self.fields_of(kind.fields), "}")
+        return self.between("{", self.fields_of(kind), "}")
 
     def of_enum(self, kind):
         name, content = kind.variants[self.draw.variant(kind.variants)]
@@ -109,23 +123,13 @@ class Json(Spelling):
     def of_decimal(self, _):
         return self.draw.decimal()
 
-    def other_field(self):
-        return self.field(self.draw.pick(("q", "", "valu", "values", "none")), self.gap() + self.skipped(3))
-
-    def skipped(self, depth):
-        """A field that is skipped: a token, or brackets of any kind with any tokens between."""
-        draw = self.draw
-        if depth == 0 or draw.chance(0.5):
-            return draw.pick(("1", "-1", "true", "null", "0.5", "1e5", draw.quoted(draw.text()), draw.float()))
-        inner = [self.gap() + (self.skipped(depth - 1) if draw.chance(0.6) else draw.pick(",:"))
-                 for _ in range(draw.below(4))]
-        return draw.pick("[{") + ",".join(inner) + self.gap() + draw.pick("]}")
-
 
 class Ron(Spelling):
     """RON."""
 
     none, tuple, other_fields = "None", "()", 0.03
+    others, words = ("q", "valu", "values", "None"), ("None", "Word", "'c'", "'\\''", "// x\nA")
+    opening, closing = ("[", "{", "(", "Some(", "W (", "A["), "]})"
 
     def gap(self):
         if self.draw.random() < 0.04:
@@ -142,12 +146,9 @@ class Ron(Spelling):
         return name
 
     def of_struct(self, kind):
-        return self.between("(", self.fields_of(kind.fields), ")")
+        return self.between("(", self.fields_of(kind), ")")
 
     def of_enum(self, kind):
         name, content = kind.variants[self.draw.variant(kind.variants)]
         name = name if self.draw.chance(0.96) else self.draw.pick(("D", "AA", "true", "None", "b"))
         return name if content.kind == "unit" else name + self.value(content)
-
-    def other_field(self):
-        return self.field("q", " 1")

@@ -27,29 +27,10 @@ class JsonReader(Reader):
             raise self.err_token(f"Got ##{word.group()}## needed true, false, null")
         return (*WORDS[word.group()], self.at)
 
-    def whole_field(self):
-        """Takes a skipped field: a token, or as many closing as opening brackets."""
-        if self.tok in ("Str", "U64", "I64", "F64", "Bool", "Null"):
-            self.next_tok()
-            return
-        if self.tok not in ("BlockOpen", "CurlyOpen"):
-            raise self.err_token("field")
-        depth = 0
-        while True:
-            depth += self.tok in ("BlockOpen", "CurlyOpen")
-            depth -= self.tok in ("BlockClose", "CurlyClose")
-            if self.tok == "Eof":
-                fault = self.err_parse("field")
-                self.fail()
-                raise fault
-            self.next_tok()
-            if depth == 0:
-                return
-
-    def unknown_field(self, name, strict):
+    def unknown_field(self, name, above):
         """A name that the struct does not have: what comes after it is skipped, unless the struct denies it."""
         self.next_colon()
-        if strict:
+        if "deny_unknown" in above:
             raise self.error(f"Unexpected key {name}")
         self.whole_field()
 

@@ -142,6 +142,22 @@ class Reader:
         self.next_tok()
         self.ask("Colon", ":")
 
+    def whole_field(self):
+        """Takes a skipped field: a token, as many closing as opening brackets, or a word and then parentheses."""
+        if self.tok not in ("Str", "U64", "I64", "F64", "Bool", "Null", "Char", "Ident") and self.tok[-4:] != "Open":
+            raise self.err_token("field")
+        word, depth = self.tok == "Ident", 0
+        while True:
+            depth += self.tok.endswith("Open") - self.tok.endswith("Close")
+            if self.tok == "Eof":
+                fault = self.err_parse("field")
+                self.fail()
+                raise fault
+            self.next_tok()
+            if depth == 0 and not (word and self.tok == "ParenOpen"):
+                return
+            word = False
+
     def u64_range(self, most):
         """The pending integer up to `most`."""
         if self.tok != "U64":

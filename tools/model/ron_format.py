@@ -55,9 +55,12 @@ class RonReader(Reader):
         """A boolean, or an integer from 0 up, of which 0 is false and any other true."""
         return self.value != 0 if self.tok == "U64" else super().as_bool()
 
-    def unknown_field(self, name, _):
-        """A name that the struct does not have."""
-        raise self.error(f"Unexpected key {name}")
+    def unknown_field(self, name, above):
+        """A name that the struct does not have: what comes after it is skipped if the struct allows it."""
+        if "allow_unknown" not in above:
+            raise self.error(f"Unexpected key {name}")
+        self.next_colon()
+        self.whole_field()
 
     def unit(self):
         """The unit is `(` `)`."""

@@ -14,7 +14,7 @@ FORMATS = {"bin-at", "json-state", "ron-state", "json-write", "ron-write", "toml
 STATE = re.compile(r"(\w+)(?:\((.*?)\))? ([0-9]+):([0-9]+) (.*)", re.DOTALL)
 WRITES = re.compile(r"(st_pre|st_post|conl|indent|field|label)(?:_([0-9]+))?(?:_([a-z]+))?")
 # The calls that one format alone has.
-ALONE = {"json": {"string", "whole_field", "next_str", "is_null"},
+ALONE = {"json": {"string", "next_str", "is_null"},
          "ron": {"ident", "paren_open", "paren_close", "eat_comma_paren", "is_paren_close", "next_ident", "is_none"}}
 ASKS = {"colon": ("Colon", ":"), "string": ("Str", "String"), "ident": ("Ident", "Identifier")}
 BRACKETS = {"block": BLOCK, "curly": CURLY, "paren": PAREN}

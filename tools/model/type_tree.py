@@ -16,7 +16,7 @@ class Type(NamedTuple):
     parts: tuple = ()  # the types of its items, parts or fields, one after another
     fields: tuple = ()  # of a struct
     variants: tuple = ()  # of an enum
-    strict: bool = False  # whether a struct of JSON has no other fields
+    above: tuple = ()  # of a struct: `deny_unknown` (of JSON, no others) and `allow_unknown` (of RON)
     size: int = 0  # an integer's bytes
     low: int = 0  # the range of an integer
     high: int = 0
@@ -61,7 +61,7 @@ ALIASES = {
 # The types of the tables in docs/FORMATS.md. A field is `name|alias: type`, and its default if it has one. A skipped
 # one is neither read nor written, so it is no field here. A variant is a name, its parts or its fields.
 STRUCTS = {
-    "Item": ["value: i32", "note: Option<String>"], "Holder": ["x: A"],
+    "Item": ["value: i32", "note: Option<String>"], "Profile": ["name: String", "level: u8", "mode: Event"],
     "Server": ["host: String", "port: u16", "tags: Tags", "limits: Limits", "note: Option<String>"],
     "Site": ["host: String", ("port: u16", 8080), ("first: String", "index"),
              ("tags: Vec<String>", ()), ("owner: Option<String>", ())],
@@ -73,7 +73,7 @@ STRUCTS = {
     "Tagged": ["first: A", "other: Option<B>", "more: Vec<A>", ("times: u32", 1)],
     "Measures": ["größe: u32", "長さ|länge: Option<u32>", "weight: u32"],
     "Hall": ["visits: Visits", "greetings: Greetings", "taken: Seats"],
-    "Branch": ["then: Statement", "otherwise: Option<Box<Statement>>"],
+    "Branch": ["then: Statement", "otherwise: Option<Box<Statement>>"], "Holder": ["x: A"],
     "Widget": ["title: String", ("shortcut: String", "none"), ("width: u16", 80), ("row: i32", -1),
                ("is_open: bool", True), ("entries: Vec<Widget>", ()), ("others: BTreeMap<String, Widget>", ())],
     "Node": ["name: String", "at: [i32; 3]", "size: (u32, u32)", "tags: BTreeSet<String>",
@@ -104,7 +104,7 @@ ENUMS = {
 # These contain themselves; a value of each has at most so many levels, itself being the first.
 NESTED = dict.fromkeys("Chain Expression Folder Json Menu Node Statement Term Trail Tree Widget".split(), 128)
 NESTED["Rule"] = 5
-STRICT = {"Proxy"}  # these are `deny_unknown`
+ABOVE = {"Proxy": ("deny_unknown",), "Profile": ("allow_unknown",)}
 PARAMETERS = {"Holder": 1, "Tagged": 2, "Reply": 2}
 ONLY = dict.fromkeys("Json Measures Sky".split(), "bin json") | {"Message": "json"}
 ONLY |= dict.fromkeys("Command i128 u128".split(), "bin")
@@ -189,7 +189,7 @@ def named(word, parts, given):
 def defined(word, given):
     """The struct or the enum of this name."""
     if word in STRUCTS:
-        return struct(STRUCTS[word], given)._replace(strict=word in STRICT)
+        return struct(STRUCTS[word], given)._replace(above=ABOVE.get(word, ()))
     if word in ENUMS:
         variants = tuple(variant(line, given) for line in ENUMS[word])
         return Type("document" if word == "Json" else "enum", variants=variants)

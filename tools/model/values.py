@@ -28,7 +28,7 @@ def read(reader, type):
     if kind in ("tuple", "array"):
         return read_parts(reader, type.parts)
     if kind == "struct":
-        return read_fields(reader, type.fields, type.strict)
+        return read_fields(reader, type)
     if kind == "enum":
         return reader.variant(type.variants)
     if kind == "document":
@@ -78,9 +78,9 @@ def read_parts(reader, parts):
     return tuple(values)
 
 
-def read_fields(reader, fields, strict):
+def read_fields(reader, type):
     """LIST of named fields in any order. Missing ones are looked for after the closing bracket."""
-    known = {name: field for field in fields for name in (field.name, *field.aliases)}
+    known = {name: field for field in type.fields for name in (field.name, *field.aliases)}
     found = {}  # of the names of a field that occur, the last one counts
     reader.ask(*reader.FIELDS.open)
     while reader.tok == reader.NAME:
@@ -89,11 +89,11 @@ def read_fields(reader, fields, strict):
             reader.next_colon()
             found[known[name].name] = read(reader, known[name].type)
         else:
-            reader.unknown_field(name, strict)
+            reader.unknown_field(name, type.above)
         reader.eat_comma(reader.FIELDS)
     reader.ask(*reader.FIELDS.close)
     values = []
-    for field in fields:
+    for field in type.fields:
         if field.name not in found and field.kind == "required":
             raise reader.error(f"Key not found {field.name}")
         values.append(found.get(field.name, field.default))

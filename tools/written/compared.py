@@ -43,14 +43,20 @@ def compare_key(impls, kind, name, attributes, content):
         same(f"parts of `{member}` of `{name}`", wanted, parts)
 
 
-def compare_strict(impls, name, attributes):
-    """What encodes and reads a struct in JSON is strict where it denies unknown names alone."""
-    calls = []
-    for trait in {"JsonCodec", "DeJson"} & impls.traits(name):
-        block = impls.block(rf"(?:\w+::)?{trait} for {name}\b")
-        calls += re.findall(r"\b(?:strict_)?json_of\b|\b(?:read|take)_record_json\w*", block)
-    wanted = ["deny_unknown" in attributes] * len(calls)
-    same(f"whether `{name}` is strict", wanted, ["strict" in call for call in calls])
+# What encodes and reads a struct by its fields, in a text.
+OF_FIELDS = re.compile(r"\b(?:strict_json|json|open_ron|ron)_of\b|\b(?:read|take)_record_\w+")
+
+
+def compare_unknown(impls, name, attributes):
+    """A struct is strict in JSON where it denies unknown names alone, and open in RON where it
+    allows them alone."""
+    words = (("Json", "deny_unknown", "strict"), ("Ron", "allow_unknown", "open"))
+    for format, attribute, word in words:
+        calls = []
+        for trait in {f"{format}Codec", f"De{format}"} & impls.traits(name):
+            calls += OF_FIELDS.findall(impls.block(rf"(?:\w+::)?{trait} for {name}\b"))
+        wanted = [attribute in attributes] * len(calls)
+        same(f"whether `{name}` is {word}", wanted, [word in call.split("_") for call in calls])
 
 
 def compare_rows(impls, kind, name, content):
@@ -88,7 +94,7 @@ def compare(source, text):
         }
         same(f"formats of `{name}`", formats_of(attributes), got)
         compare_key(impls, kind, name, attributes, content)
-        compare_strict(impls, name, attributes)
+        compare_unknown(impls, name, attributes)
         for trait, written in impls.bounds(name):
             same(f"bounds of `{trait}` for `{name}`", bounds, written)
         cycle, root = cycle_of(found, name)

@@ -240,7 +240,8 @@ def drawn(draw, number):
     case = f', rename_all = "{draw.choice(CASES)}"' if has_case else ""
     words = ["first", "second_one", "the_third", "x", "last_of_all", "y2"]
     names = draw.sample(words, draw.randrange(7))
-    denied = " deny_unknown" if "json" in formats and draw.random() < 0.3 else ""
+    unknown = " deny_unknown" if "json" in formats and draw.random() < 0.3 else ""
+    unknown += " allow_unknown" if "ron" in formats and draw.random() < 0.3 else ""
     is_unit = not names and draw.random() < 0.5
     parameters, end, types = drawn_head(draw, plain, ";" if is_unit else " {")
     lines = [
@@ -250,7 +251,7 @@ def drawn(draw, number):
         f"// nanoserde: {formats}",
         "#[derive(Drop)]",
         "pub struct Here(pub u8);",
-        f"// nanoserde: {formats}{case if names else ''}{denied}",
+        f"// nanoserde: {formats}{case if names else ''}{unknown}",
         "#[derive(Drop)]",
         f"pub struct S{number}{parameters}{end}",
     ]

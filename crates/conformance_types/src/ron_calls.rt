@@ -95,6 +95,7 @@ fn taken(
         Call::EatCommaBlock => done(alloc, state.eat_comma_block(alloc, input)),
         Call::EatCommaCurly => done(alloc, state.eat_comma_curly(alloc, input)),
         Call::EatCommaParen => done(alloc, state.eat_comma_paren(alloc, input)),
+        Call::WholeField => done(alloc, state.whole_field(alloc, input)),
         _ => other(alloc, state, input, call),
     }
 }

@@ -1,7 +1,7 @@
 //! The impls of a type in each of its formats.
 
 use crate::codec::{BIN, Codec, DEFINITION, JSON, RON};
-use crate::forms::{Form, STRICT};
+use crate::forms::{Form, OPEN, STRICT};
 use crate::means::with_law;
 use crate::sheet::Sheet;
 use crate::target::Target;
@@ -16,17 +16,17 @@ pub(crate) fn append_codecs<'a>(
     in_bytes: &Form<'_>,
     in_text: &Form<'_>,
 ) -> Result<(), AllocError> {
-    let [bin, _, _] = in_bytes.imports;
-    let [_, json, ron] = in_text.imports;
     let named = target.attributes;
+    let denies = named.deny_unknown.is_some();
+    let allows = named.allow_unknown.is_some();
+    let in_json = if denies { STRICT } else { *in_text };
+    let in_ron = if allows { OPEN } else { *in_text };
+    let [bin, _, _] = in_bytes.imports;
+    let [_, json, _] = in_json.imports;
+    let [_, _, ron] = in_ron.imports;
     append_codec(sheet, target, in_bytes, bin, &BIN, named.bin)?;
-    if named.deny_unknown.is_some() {
-        let [_, strict, _] = STRICT.imports;
-        append_codec(sheet, target, &STRICT, strict, &JSON, named.json)?;
-    } else {
-        append_codec(sheet, target, in_text, json, &JSON, named.json)?;
-    }
-    append_codec(sheet, target, in_text, ron, &RON, named.ron)
+    append_codec(sheet, target, &in_json, json, &JSON, named.json)?;
+    append_codec(sheet, target, &in_ron, ron, &RON, named.ron)
 }
 
 /// Appends the impls of a format, as far as it is used.

@@ -72,6 +72,24 @@ const STRICT_TAKER: &str = "
         nano_json_schema::take_record_json_strict::<Self, $ROW>(alloc, place, input, text)
     }";
 
+/// A struct by its fields in RON, where others are skipped.
+pub(crate) const OPEN: Form = Form {
+    imports: [
+        &[],
+        &[],
+        &[
+            "ghost use Rattle.nano_ron_schema.specs.Structs.{open_ron_of};",
+            REFL,
+        ],
+    ],
+    term: "open_ron_of ⟦<$FULL as nano_schema::StructSchema>⟧.view \
+        ⟦<$ROW as nano_ron_schema::RonShape>⟧.codec$PROOF",
+    write: "        nano_ron_schema::write_record_ron::<Self, $ROW>(self, $ARGUMENTS)",
+    read: "        nano_ron_schema::read_record_ron_open::<Self, $ROW>($ARGUMENTS)",
+    taker: "",
+    is_by_codec: true,
+};
+
 /// An enum, by its variants.
 pub(crate) const CHOICE: Form = Form {
     imports: [

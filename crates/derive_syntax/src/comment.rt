@@ -9,7 +9,7 @@ const FORM: &str =
     colon";
 
 /// The words with which an attribute begins.
-const WORDS: [&str; 17] = [
+const WORDS: [&str; 18] = [
     "bin",
     "json",
     "ron",
@@ -24,6 +24,7 @@ const WORDS: [&str; 17] = [
     "rename",
     "rename_all",
     "deny_unknown",
+    "allow_unknown",
     "levels",
     "default",
     "skip",

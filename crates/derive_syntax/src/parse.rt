@@ -6,7 +6,8 @@ mod brackets;
 mod cursor;
 mod fields;
 mod items;
+mod rust;
 mod types;
 
-pub(crate) use attributes::{AS_COMMENT, KEY_TRAITS};
 pub use items::source_of;
+pub(crate) use rust::{AS_COMMENT, KEY_TRAITS};

@@ -69,6 +69,8 @@ pub struct Attributes<'a> {
     pub levels: Option<Token<'a>>,
     /// The word `deny_unknown`.
     pub deny_unknown: Option<Token<'a>>,
+    /// The word `allow_unknown`.
+    pub allow_unknown: Option<Token<'a>>,
     /// The word `default`.
     pub default: Option<Token<'a>>,
     /// The text after `default`.

@@ -1,9 +1,12 @@
 -- What a reader that puts items into a collection knows at the head of its loop, and at its exits.
-use Rattle.std.proofs.Common.{◌≡◌, ℕ, ◌+◌, ◌<◌, ◌≤◌, List, [], ◌∷◌, ◌++◌, drop, sym, subst, arith}
+use Rattle.std.proofs.Common.{◌≡◌, ℕ, ◌+◌, ◌<◌, ◌≤◌, List, [], ◌∷◌, ◌++◌, sym, subst, arith}
 use Rattle.nano_value.specs.Meaning.{IsImage, Meaning, paired}
 use Rattle.nano_meaning.proofs.MeaningLaws.{both_injective}
 use Rattle.nano_bin_bytes.specs.Scalars.{EncodesNumber}
-use Rattle.nano_bin_bytes.specs.Reading.{Decodes, DecodesToNothing}
+use Rattle.nano_bin_bytes.specs.declared.error.DeBinErr.{DeBinErr}
+use Rattle.nano_bin_bytes.specs.declared.error.DeBinKind.TheVariants.{Memory}
+use Rattle.nano_bin_bytes.specs.Reading.{Decodes, ReadsNone, rejection}
+use Rattle.nano_bin_bytes.proofs.ErrorsLaws.{memory_reads_none, passed_here}
 use Rattle.nano_bin_bytes.specs.Codec.{IsEncoding}
 use Rattle.nano_bin_bytes.specs.Containers.{EncodesAll, EncodesCount, EncodesList, EncodesPair}
 use Rattle.nano_bin.proofs.Readers.{count_reads_none, count_reads_push, count_rejected, list_reads}
@@ -49,20 +52,33 @@ module _ {C V : Type 0} {holds : C → List V → Type 0} {S : List ℕ → V �
 
   -- where the next item does not decode, no collection does
   pub collected_rejected : (whole : List V → Meaning) {P : V → Type 0} → IsEncoding P S
-      → {start mid here n count : ℕ} {x : C} → Decodes (EncodesNumber 8) bytes start n mid
-      → Collected holds S count bytes mid x here → count < n → DecodesToNothing S (drop here bytes)
-      → DecodesToNothing (EncodesAll whole S) (drop start bytes)
-  collected_rejected whole s {start} {mid} {here} {n} {count} h r less none =
-      let rest = count_rejected S s bytes mid here count n r.items r.reads less none in
-      image_rejected (EncodesList S) whole (drop start bytes)
-      (list_items_rejected S bytes start mid n h rest)
+      → {start mid here end n count : ℕ} {x : C} {error : DeBinErr}
+      → Decodes (EncodesNumber 8) bytes start n mid
+      → Collected holds S count bytes mid x here → count < n → ReadsNone S bytes here end error
+      → ReadsNone (EncodesAll whole S) bytes start start error
+  collected_rejected whole s h r less none =
+      let rest = count_rejected S s r.reads less none in
+      image_rejected (EncodesList S) whole (list_items_rejected S h rest)
+
+  -- no memory for one more item
+  pub uncollected : (whole : List V → Meaning) {start mid here n count : ℕ} {x : C}
+      {error : DeBinErr} → Decodes (EncodesNumber 8) bytes start n mid
+      → Collected holds S count bytes mid x here → {end : ℕ} {v : V} → Decodes S bytes here v end
+      → error ≡ rejection Memory end 0 bytes
+      → ReadsNone (EncodesAll whole S) bytes start start error
+  uncollected whole {start} {error = error} h r {end} one is =
+      let counted = h.moved in
+      let collected = r.reads.moved in
+      let last = one.moved in
+      let after : start ≤ end = omega (arith, counted, collected, last) in
+      memory_reads_none (EncodesAll whole S) bytes start end error after is
 
 -- where there is no count, there is no collection
 pub uncounted_rejected : {V : Type 0} (whole : List V → Meaning) (S : List ℕ → V → Type 0)
-    (bytes : List ℕ) → DecodesToNothing (EncodesNumber 8) bytes
-    → DecodesToNothing (EncodesAll whole S) bytes
-uncounted_rejected whole S bytes none =
-    image_rejected (EncodesList S) whole bytes (list_rejected S bytes none)
+    {bytes : List ℕ} {start end : ℕ} {error : DeBinErr}
+    → ReadsNone (EncodesNumber 8) bytes start end error
+    → ReadsNone (EncodesAll whole S) bytes start start error
+uncounted_rejected whole S none = image_rejected (EncodesList S) whole (list_rejected S none)
 
 -- ---- pairs
 
@@ -77,12 +93,13 @@ module _ (S R : List ℕ → Meaning → Type 0) where
       let both = subst (EncodesPair S R r.prefix) (λ i. (sym parts.0 i, sym parts.1 i)) is.has in
       record { prefix = r.prefix; whole = r.whole; moved = r.moved; is_encoded = both }
 
-  pub no_pair : (bytes : List ℕ)
-      → DecodesToNothing (λ a. IsImage paired (EncodesPair S R a)) bytes
-      → DecodesToNothing (EncodesPair S R) bytes
-  no_pair bytes none p f = none (paired p) (record {
-    prefix = f.prefix;
-    rest = f.rest;
-    whole = f.whole;
-    is_encoded = record { part = p; has = f.is_encoded; is = λ i. paired p };
-  })
+  pub no_pair : {bytes : List ℕ} {start end : ℕ} {error : DeBinErr}
+      → ReadsNone (λ a. IsImage paired (EncodesPair S R a)) bytes start end error
+      → ReadsNone (EncodesPair S R) bytes start end error
+  no_pair rejected = passed_here (EncodesPair S R) rejected (λ left none p f.
+      none (paired p) (record {
+        prefix = f.prefix;
+        rest = f.rest;
+        whole = f.whole;
+        is_encoded = record { part = p; has = f.is_encoded; is = λ i. paired p };
+      }))

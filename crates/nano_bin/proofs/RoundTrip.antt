@@ -1,7 +1,7 @@
 -- What is read where a code stands.
 use Rattle.std.proofs.Common.{◌≡◌, ◌≢◌, ℕ, ◌+◌, List, ◌++◌, length, drop, sym, ◌∙◌, subst, ap}
 use Rattle.std.proofs.Common.{append_assoc, refl, Result, Ok, Err, IfErr, Bool, true, false, cond}
-use Rattle.std.proofs.Common.{map, ◌<◌, [], arith}
+use Rattle.std.proofs.Common.{map, ◌<◌, [], arith, length-append}
 use Rattle.std.proofs.lemmas.List.{drop-drop, append-nil}
 use Rattle.std.proofs.Math.Seq.{drop-append_seam}
 use Rattle.std.specs.declared.cmp.Ordering.{Ordering}
@@ -14,6 +14,8 @@ use Rattle.nano_bin_bytes.specs.Codec.{IsEncoding, Codec}
 use Rattle.nano_bin_bytes.proofs.CodecLaws.{same_prefixes}
 use Rattle.nano_bin_bytes.specs.Reading.{DecodesToNothing, Decodes, ReadsNone, rejection}
 use Rattle.nano_bin_bytes.specs.Reading.{kind_within, own_error, DecodesTo, ReportsTrailing}
+use Rattle.nano_bin_bytes.specs.Reading.{RejectsWhole, RejectsWholeWithMore, IsReport, MayFollow}
+use Rattle.nano_bin_bytes.proofs.ErrorsLaws.{rejects_now}
 use Rattle.nano_bin_bytes.specs.Promises.{StandsAt, FailsForMemory}
 use Rattle.nano_value.specs.Meaning.{Meaning, Agrees}
 use Rattle.nano_value.specs.Tables.{table_of, table_means}
@@ -68,7 +70,7 @@ pub fails_for_memory : {T A : Type 0} (S : List ℕ → A → Type 0) (code byte
     → (StandsAt code bytes start → DecodesToNothing S (drop start bytes) → ⊥)
     → IfErr r (FailsForMemory code bytes start end)
 fails_for_memory S code bytes start end (Ok x) h fits = tt
-fails_for_memory S code bytes start end (Err x) h fits = record { memory = λ at. for_memory x.kind (λ other. fits at (h.rejects other)); unchanged = h.unchanged }
+fails_for_memory S code bytes start end (Err x) h fits = record { memory = λ at. for_memory x.kind (λ other. fits at (rejects_now S (drop start bytes) x h.rejects other)); unchanged = h.unchanged }
 
 -- ==== values of the same bytes
 
@@ -109,13 +111,29 @@ module _ {K : Type 0} {means : K → Meaning} {legal : Meaning → Type 0} (o : 
 pub whole_decodes : {A : Type 0} (S : List ℕ → A → Type 0) (bytes : List ℕ) (x : A) → S bytes x → DecodesTo S bytes x
 whole_decodes S bytes x h = record { prefix = bytes; rest = []; whole = sym (append-nil bytes); is_encoded = h }
 
--- a value that is read up to a place before the end is not encoded by all of the bytes
-pub read_before_end : {A : Type 0} {P : A → Type 0} {S : List ℕ → A → Type 0} → IsEncoding P S → (bytes : List ℕ) (end : ℕ) (x : A) → Decodes S bytes 0 x end → end < length bytes → (y : A) → S bytes y → ⊥
-read_before_end s bytes end x r less y h =
-    let same = same_prefixes s r.prefix bytes (drop end bytes) [] x y r.is_encoded h (sym r.whole ∙ sym (append-nil bytes)) in
+-- a value that is read up to a place before the end is encoded neither by all of the bytes nor by
+-- more
+pub read_before_end : {A : Type 0} {P : A → Type 0} {S : List ℕ → A → Type 0} → IsEncoding P S → (bytes : List ℕ) (end : ℕ) (x : A) → Decodes S bytes 0 x end → end < length bytes → (more : List ℕ) (y : A) → S (bytes ++ more) y → ⊥
+read_before_end s bytes end x r less more y h =
+    let left = ap (λ l. l ++ more) r.whole ∙ append_assoc r.prefix (drop end bytes) more in
+    let same = same_prefixes s r.prefix (bytes ++ more) (drop end bytes ++ more) [] x y r.is_encoded h (sym left ∙ sym (append-nil (bytes ++ more))) in
     let one = r.moved in
-    let long = ap length same.0 in
+    let long = ap length same.0 ∙ length-append bytes more in
     omega (arith, one, long, less)
+
+-- what is said of all of the bytes alone
+pub whole_rejects_now : {A : Type 0} (S : List ℕ → A → Type 0) (bytes : List ℕ) (error : DeBinErr) → RejectsWholeWithMore S bytes error → RejectsWhole S bytes error
+whole_rejects_now S bytes error h other y is_encoded = h [] other (λ _. refl) y (subst (λ l. S l y) (sym (append-nil bytes)) is_encoded)
+
+-- bytes that come after a value are reported
+pub trailing_reports : (bytes : List ℕ) (end : ℕ) (e : DeBinErr) → e ≡ rejection TrailingBytes end 0 bytes → IsReport bytes 0 e
+trailing_reports bytes end e is = subst (IsReport bytes 0) (sym is) (record {
+  size = refl;
+  place = omega arith;
+  too_short = λ k. absurd (cc);
+  not_utf8 = λ k. absurd (cc);
+  memory = λ k. absurd (cc);
+})
 
 -- bytes follow it
 pub read_trailing : {A : Type 0} (S : List ℕ → A → Type 0) (bytes : List ℕ) (end : ℕ) (x : A) (e : DeBinErr) → Decodes S bytes 0 x end → end < length bytes → e ≡ rejection TrailingBytes end 0 bytes → ReportsTrailing S bytes e
@@ -135,3 +153,30 @@ read_trailing S bytes end x e r less is = record {
 -- an error of a value that is passed on is out of memory where the value's error was
 pub not_for_memory : (given e : DeBinErr) → e ≡ own_error given → e.kind ≢ Memory → given.kind ≢ Memory
 not_for_memory given e is other same = other (ap (λ x. x.kind) is ∙ ap kind_within same)
+
+-- as many bytes may follow
+pub may_follow : (given e : DeBinErr) (more : List ℕ) → e ≡ own_error given → MayFollow more e → MayFollow more given
+may_follow given e more is fits same = fits (ap (λ (x : DeBinErr). x.kind) is ∙ ap kind_within same)
+
+-- it is of the same kind, unless that is the kind of a user-defined type
+same_kind : (kind other : DeBinKind) → other ≢ Own → kind_within kind ≡ other → kind ≡ other
+same_kind TooShort other some e = e
+same_kind NotUtf8 other some e = e
+same_kind TooLong other some e = e
+same_kind Memory other some e = e
+same_kind Own other some e = e
+same_kind TrailingBytes other some e = absurd (some (sym e))
+
+-- and it tells the same
+pub own_reports : (bytes : List ℕ) (start : ℕ) (given e : DeBinErr) → e ≡ own_error given → IsReport bytes start given → IsReport bytes start e
+own_reports bytes start given e is r = subst (IsReport bytes start) (sym is) (record {
+  size = r.size;
+  place = r.place;
+  too_short = λ k.
+      let h = r.too_short (same_kind given.kind TooShort (λ o. cc) k) in
+      record { left = h.left; is = ap own_error h.is };
+  not_utf8 = λ k.
+      let h = r.not_utf8 (same_kind given.kind NotUtf8 (λ o. cc) k) in
+      record { left = h.left; wrong = h.wrong; is = ap own_error h.is };
+  memory = λ k. r.memory (same_kind given.kind Memory (λ o. cc) k);
+})

@@ -84,6 +84,7 @@ pub trait DeBin: BinCodec + Drop {
     ghost use Rattle.std.specs.Prelude.{◌≡◌, true, map, IfOk, IfErr};
     ghost use Rattle.nano_bin_bytes.specs.Reading.{DecodesTo, Decodes, Rejects, ReadsNone};
     ghost use Rattle.nano_bin_bytes.specs.Reading.{RejectsWhole, IsOfTrailing, NamesTrailing};
+    ghost use Rattle.nano_bin_bytes.specs.Reading.{RejectsWithMore, RejectsWholeWithMore, IsReport};
     ghost use Rattle.nano_bin_bytes.specs.Containers.{EncodesCount};
 
     /// Reads the value that a prefix of the bytes from `offset` on encodes, and sets `offset`
@@ -95,6 +96,14 @@ pub trait DeBin: BinCodec + Drop {
     ///
     /// No prefix of those bytes encodes a value, or memory ran out (`DeBinKind::Memory`). Every
     /// error leaves `offset` unchanged.
+    ///
+    /// More bytes can help where the kind is `TooShort`: those at hand are too few. Of an error
+    /// of another kind they do not: but for `Memory`, no value is encoded there, whatever bytes
+    /// follow.
+    ///
+    /// The error tells the number of all bytes, and a place that is not before `offset`: there
+    /// fewer bytes are left than it wants (`TooShort`), or so many bytes are not UTF-8
+    /// (`NotUtf8`). Out of memory wants no bytes.
     ///
     /// # Examples
     ///
@@ -112,7 +121,8 @@ pub trait DeBin: BinCodec + Drop {
     ///
     /// # Errors
     ///
-    /// No prefix of `d` encodes a value, or memory ran out (`DeBinKind::Memory`).
+    /// No prefix of `d` encodes a value, or memory ran out (`DeBinKind::Memory`). The error is
+    /// that of `de_bin` at 0.
     ///
     /// # Examples
     ///
@@ -123,6 +133,8 @@ pub trait DeBin: BinCodec + Drop {
         ensures ok { IfOk result (λ value.
             DecodesTo Self.bin.encoding.encodes d.now (Self.means value)) }
         ensures err { IfErr result (Rejects Self.bin.encoding.encodes d.now) }
+        ensures more { IfErr result (RejectsWithMore Self.bin.encoding.encodes d.now) }
+        ensures report { IfErr result (IsReport d.now 0) }
     {
         let mut offset = 0;
         Self::de_bin(alloc, &mut offset, d)
@@ -136,7 +148,9 @@ pub trait DeBin: BinCodec + Drop {
     /// `TrailingBytes`, with the place after that prefix and no bytes wanted there, or it is
     /// out of memory. Nothing else is rejected so. An error of this kind from the value's own
     /// reader is passed on as `Own`. Any other error except out of memory reports that no
-    /// prefix of `d` encodes a value.
+    /// prefix of `d` encodes a value. Unless the kind is `TooShort` or `Memory`, no bytes after
+    /// `d` make it the encoding of a value. Of each kind, the error tells what that of `de_bin`
+    /// does.
     ///
     /// # Examples
     ///
@@ -148,6 +162,8 @@ pub trait DeBin: BinCodec + Drop {
     final fn deserialize_bin_whole(alloc: Global, d: &[u8]) -> Result<Self, DeBinErr>
         ensures ok { IfOk result (λ value. Self.bin.encoding.encodes d.now (Self.means value)) }
         ensures err { IfErr result (RejectsWhole Self.bin.encoding.encodes d.now) }
+        ensures more { IfErr result (RejectsWholeWithMore Self.bin.encoding.encodes d.now) }
+        ensures report { IfErr result (IsReport d.now 0) }
         ensures trailing { IfErr result (IsOfTrailing Self.bin.encoding.encodes d.now) }
         ensures following { IfErr result (NamesTrailing Self.bin.encoding.encodes d.now) }
     {

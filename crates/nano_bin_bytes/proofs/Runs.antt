@@ -76,12 +76,14 @@ module _ (k : ℕ) {S : List ℕ → Meaning → Type 0} {f : List ℕ → Meani
         is_encoded = subst (λ l. S l (f chunk)) (sym r.is_encoded.same) (width.is_encoded chunk r.is_encoded.long are);
       }
 
-  -- fewer bytes have no prefix of this many bytes
-  pub width_rejected : (bytes : List ℕ) → length bytes < k → DecodesToNothing S bytes
-  width_rejected bytes h m r =
-      let long = width.long r.prefix m r.is_encoded in
-      let parts = ap length r.whole ∙ length-append r.prefix r.rest in
-      omega (arith, long, parts)
+  -- where no chunk stands, nothing of its width does
+  pub chunk_rejected : (bytes : List ℕ) → DecodesToNothing (IsChunk k) bytes → DecodesToNothing S bytes
+  chunk_rejected bytes none m r = none r.prefix (record {
+    prefix = r.prefix;
+    rest = r.rest;
+    whole = r.whole;
+    is_encoded = record { same = refl; long = width.long r.prefix m r.is_encoded };
+  })
 
 -- ---- so many chunks
 

@@ -5,10 +5,10 @@ use Rattle.std.specs.Prelude.{String, string_bytes}
 use Rattle.std.specs.List.{flat_map}
 use Rattle.std.specs.declared.cmp.Ordering.{Ordering}
 use Rattle.std.specs.Global.{Global}
-use Rattle.nano_value.specs.Meaning.{IsImage, Meaning, listed, paired, optional, text}
+use Rattle.nano_value.specs.Meaning.{IsImage, Meaning, text}
 use Rattle.nano_bin_bytes.specs.Scalars.{EncodesNumber, little_endian}
-use Rattle.nano_value.specs.Sets.{items_mean, ascending_items}
-use Rattle.nano_value.specs.Tables.{map_means, ascending}
+use Rattle.nano_value.specs.Sets.{ascending_items}
+use Rattle.nano_value.specs.Tables.{ascending}
 use Rattle.nano_value.specs.Order.{MeaningOrder, by_meaning}
 use Rattle.nano_bin_bytes.specs.Codec.{Canonical}
 

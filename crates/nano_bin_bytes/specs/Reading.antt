@@ -33,6 +33,17 @@ pub record Decodes {A : Type 0} (encodes : List ℕ → A → Type 0) (bytes : L
 abbrev pub Rejects : {A : Type 0} → (List ℕ → A → Type 0) → List ℕ → DeBinErr → Type 0
 Rejects encodes bytes error = error.kind ≢ Memory → DecodesToNothing encodes bytes
 
+-- so many bytes that the error still holds: none where they are too few, else any
+abbrev pub MayFollow : List ℕ → DeBinErr → Type 0
+MayFollow more error = error.kind ≡ TooShort → more ≡ []
+
+-- an error other than out of memory: nothing decodes, whatever bytes come to follow these. That
+-- they are too few is said of these bytes alone
+abbrev pub RejectsWithMore : {A : Type 0} → (List ℕ → A → Type 0) → List ℕ → DeBinErr → Type 0
+RejectsWithMore encodes bytes error =
+    (more : List ℕ) → error.kind ≢ Memory → MayFollow more error
+    → DecodesToNothing encodes (bytes ++ more)
+
 -- ==== the errors of readers
 
 -- an error at a place, where this many bytes were wanted among all of them
@@ -49,6 +60,15 @@ pub record IsNotUtf8 (bytes : List ℕ) (place wanted : ℕ) (error : DeBinErr) 
   pub left : wanted ≤ length (drop place bytes)
   pub wrong : IsUtf8 (take wanted (drop place bytes)) → ⊥
   pub is : error ≡ rejection NotUtf8 place wanted bytes
+
+-- what an error of a reader that began at this offset tells besides its kind: how many bytes
+-- there are in all, a place that is not before the offset, and what is wrong there
+pub record IsReport (bytes : List ℕ) (start : ℕ) (error : DeBinErr) : Type 0 where
+  pub size : error.s ≡ length bytes
+  pub place : start ≤ error.o
+  pub too_short : error.kind ≡ TooShort → IsTooShort bytes error.o error.l error
+  pub not_utf8 : error.kind ≡ NotUtf8 → IsNotUtf8 bytes error.o error.l error
+  pub memory : error.kind ≡ Memory → error.l ≡ 0
 
 -- so many bytes of UTF-8 do not stand at the place: they are cut short, or they are no UTF-8
 abbrev pub IsTextFault : List ℕ → ℕ → ℕ → DeBinErr → Type 0
@@ -91,44 +111,48 @@ printed e =
 -- whatever is read
 pub record ReadsNone {A : Type 0} (encodes : List ℕ → A → Type 0) (bytes : List ℕ) (start end : ℕ)
     (error : DeBinErr) : Type 0 where
-  pub rejects : Rejects encodes (drop start bytes) error
+  pub rejects : RejectsWithMore encodes (drop start bytes) error
+  pub report : IsReport bytes start error
   pub unchanged : end ≡ start
 
 -- what takes no memory and any bytes, where only too few of them reject it: these are wanted at
 -- the place
 pub record ReadsNoneWhereShort {A : Type 0} (encodes : List ℕ → A → Type 0) (bytes : List ℕ)
     (start end place wanted : ℕ) (error : DeBinErr) : Type 0 where
-  pub none : DecodesToNothing encodes (drop start bytes)
+  pub none : ReadsNone encodes bytes start end error
   pub short : IsTooShort bytes place wanted error
-  pub unchanged : end ≡ start
 
 -- a count of numbers of a width: the first that is cut short, or memory for all of them
 pub record ReadsNoRun {A : Type 0} (encodes : List ℕ → A → Type 0) (bytes : List ℕ)
     (start end count width : ℕ) (error : DeBinErr) : Type 0 where
-  pub rejects : Rejects encodes (drop start bytes) error
+  pub none : ReadsNone encodes bytes start end error
   pub short : IsRunFault bytes (start + length (drop start bytes) / width * width) width error
   pub memory : IsMemoryFault bytes (start + count * width) error
-  pub unchanged : end ≡ start
 
 -- so many bytes of text
 pub record ReadsNoStringOf (count : ℕ) (bytes : List ℕ) (start end : ℕ) (error : DeBinErr)
     : Type 0 where
-  pub rejects : Rejects (IsTextOf count) (drop start bytes) error
+  pub none : ReadsNone (IsTextOf count) bytes start end error
   pub fault : IsTextFault bytes start count error
   pub memory : IsMemoryFault bytes start error
-  pub unchanged : end ≡ start
 
 -- a text after its length
 pub record ReadsNoString (bytes : List ℕ) (start end : ℕ) (error : DeBinErr) : Type 0 where
-  pub rejects : Rejects EncodesString (drop start bytes) error
+  pub none : ReadsNone EncodesString bytes start end error
   pub fault : error.kind ≢ Memory → IsTextRejection bytes start error
-  pub unchanged : end ≡ start
 
 -- ==== whole inputs
 
 -- an error other than out of memory: all the bytes together encode no value
 abbrev pub RejectsWhole : {A : Type 0} → (List ℕ → A → Type 0) → List ℕ → DeBinErr → Type 0
 RejectsWhole {A} encodes bytes error = error.kind ≢ Memory → (value : A) → encodes bytes value → ⊥
+
+-- the same whatever bytes come to follow these; that they are too few is said of these alone
+abbrev pub RejectsWholeWithMore :
+    {A : Type 0} → (List ℕ → A → Type 0) → List ℕ → DeBinErr → Type 0
+RejectsWholeWithMore {A} encodes bytes error =
+    (more : List ℕ) → error.kind ≢ Memory → MayFollow more error
+    → (value : A) → encodes (bytes ++ more) value → ⊥
 
 -- a prefix of the bytes encodes a value, bytes follow it, and the error reports where
 pub record ReportsTrailing {A : Type 0} (encodes : List ℕ → A → Type 0) (bytes : List ℕ)

@@ -18,10 +18,11 @@ pub enum DeBinKind {
     NotUtf8,
     /// A `usize`, a length or a count is over `usize::MAX`: `o` is its first byte, `l` is 8.
     TooLong,
-    /// Allocation failed. This says nothing about the bytes: `o` is not specified, and `l` is
-    /// 0.
+    /// Allocation failed. This says nothing about the bytes: `o` is not before the offset that
+    /// the reader began at, and `l` is 0.
     Memory,
-    /// Made only by the reader of a user-defined type: that reader chooses `o` and `l`.
+    /// Made only by the reader of a user-defined type: that reader chooses `l`, and `o` from its
+    /// offset on.
     Own,
     /// Bytes come after the value that was to take all of them: `o` is the place after its
     /// code, `l` is 0.

@@ -10,6 +10,7 @@ use Rattle.nano_meaning.proofs.MeaningLaws.{list_weaker}
 use Rattle.nano_bin_bytes.specs.Scalars.{little_endian, EncodesUnsigned}
 use Rattle.nano_bin_bytes.specs.NumberImpls.{length-little_endian}
 use Rattle.nano_bin_bytes.specs.Reading.{Decodes, DecodesToNothing, RejectsWhole, IsOfTrailing}
+use Rattle.nano_bin_bytes.specs.Reading.{RejectsWholeWithMore, IsReport}
 use Rattle.nano_bin_bytes.specs.Reading.{NamesTrailing}
 use Rattle.nano_bin_bytes.specs.Containers.{EncodesAll}
 use Rattle.nano_bin_bytes.proofs.ListsLaws.{list_reads_back}
@@ -138,12 +139,24 @@ rejects_frame encodes old known error bytes code start end k r rejects =
 
 -- the error, with the size of the code, is one of reading the code
 pub rejects_code : (encodes : List ℕ → Meaning → Type 0) (code : List ℕ) (error : DeBinErr) → error.kind ≢ Memory
-    → RejectsWhole encodes code error → IsOfTrailing encodes code error → NamesTrailing encodes code error
+    → IsReport code 0 error → RejectsWhole encodes code error → RejectsWholeWithMore encodes code error
+    → IsOfTrailing encodes code error → NamesTrailing encodes code error
     → RejectsCode encodes code (of_code code error)
-rejects_code encodes code error kind rejects trailing following = record {
-  size = refl;
+rejects_code encodes code error kind report rejects more trailing following = record {
+  report = record {
+    size = refl;
+    place = report.place;
+    too_short = λ is.
+        let r = report.too_short is in
+        record { left = r.left; is = ap (of_code code) r.is };
+    not_utf8 = λ is.
+        let r = report.not_utf8 is in
+        record { left = r.left; wrong = r.wrong; is = ap (of_code code) r.is };
+    memory = report.memory;
+  };
   not_memory = kind;
   rejects = rejects;
+  more = more;
   trailing = λ is.
       let r = trailing is in
       record { value = r.value; fits = r.fits; more = r.more; is = ap (of_code code) r.is };
@@ -153,13 +166,14 @@ rejects_code encodes code error kind rejects trailing following = record {
 -- the fault that is made of such an error, where it carries one
 pub fault_rejects : (encodes : List ℕ → Meaning → Type 0) (code : List ℕ) (error : DeBinErr) (fault : Fault)
     → (error.kind ≡ Memory → IsOfStream fault) → (error.kind ≢ Memory → fault ≡ Bad (of_code code error))
-    → RejectsWhole encodes code error → IsOfTrailing encodes code error → NamesTrailing encodes code error
+    → IsReport code 0 error → RejectsWhole encodes code error → RejectsWholeWithMore encodes code error
+    → IsOfTrailing encodes code error → NamesTrailing encodes code error
     → (carried : DeBinErr) → fault ≡ Bad carried → RejectsCode encodes code carried
-fault_rejects encodes code error fault memory bad rejects trailing following carried is =
+fault_rejects encodes code error fault memory bad report rejects more trailing following carried is =
     let not_memory : error.kind ≢ Memory =
     (λ m. let stream = memory m in let e : Bad carried ≡ Stream stream.0 = sym is ∙ stream.1 in cc) in
     let same : of_code code error ≡ carried = (let e : Bad (of_code code error) ≡ Bad carried = sym (bad not_memory) ∙ is in cc) in
-    subst (RejectsCode encodes code) same (rejects_code encodes code error not_memory rejects trailing following)
+    subst (RejectsCode encodes code) same (rejects_code encodes code error not_memory report rejects more trailing following)
 
 -- ---- one more read
 

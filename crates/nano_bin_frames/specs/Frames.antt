@@ -7,7 +7,8 @@ use Rattle.std.specs.declared.io.ErrorKind.TheVariants.{Interrupted}
 use Rattle.nano_value.specs.Meaning.{Meaning, whole, listed}
 use Rattle.nano_bin_bytes.specs.declared.error.DeBinErr.{DeBinErr}
 use Rattle.nano_bin_bytes.specs.declared.error.DeBinKind.TheVariants.{Memory}
-use Rattle.nano_bin_bytes.specs.Reading.{RejectsWhole, IsOfTrailing, NamesTrailing}
+use Rattle.nano_bin_bytes.specs.Reading.{RejectsWhole, IsOfTrailing, NamesTrailing, IsReport}
+use Rattle.nano_bin_bytes.specs.Reading.{RejectsWholeWithMore}
 use Rattle.nano_bin_bytes.specs.Scalars.{little_endian, EncodesUnsigned}
 use Rattle.nano_bin_bytes.specs.Containers.{EncodesAll, written_list}
 use Rattle.nano_bin_frames.specs.declared.error.Fault.{Fault}
@@ -85,9 +86,10 @@ pub record HoldsNoMessage (encodes : List ℕ → Meaning → Type 0) (bytes : L
 -- the error of reading a code as a whole, other than out of memory
 pub record RejectsCode (encodes : List ℕ → Meaning → Type 0) (code : List ℕ) (error : DeBinErr)
     : Type 0 where
-  pub size : error.s ≡ length code
+  pub report : IsReport code 0 error
   pub not_memory : error.kind ≢ Memory
   pub rejects : RejectsWhole encodes code error
+  pub more : RejectsWholeWithMore encodes code error
   pub trailing : IsOfTrailing encodes code error
   pub following : NamesTrailing encodes code error
 

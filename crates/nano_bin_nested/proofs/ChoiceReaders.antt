@@ -3,8 +3,11 @@ use Rattle.std.specs.Prelude.{◌≡◌, ◌≢◌, ◌+◌, ◌-◌, ℕ, zero,
 use Rattle.std.proofs.Common.{◌∙◌, subst, ap, arith, ◌≤◌, sym}
 use Rattle.nano_value.specs.Meaning.{Meaning}
 use Rattle.nano_value.specs.Sums.{tagged, count_variants}
-use Rattle.nano_bin_bytes.specs.Reading.{Decodes, Rejects, ReadsNone}
+use Rattle.nano_bin_bytes.specs.Reading.{Decodes, RejectsWithMore, ReadsNone, rejection}
+use Rattle.nano_bin_bytes.proofs.ErrorsLaws.{report_from}
+use Rattle.nano_bin.proofs.Variants.{unknown_reports}
 use Rattle.nano_bin_bytes.specs.declared.error.DeBinErr.{DeBinErr}
+use Rattle.nano_bin_bytes.specs.declared.error.DeBinKind.TheVariants.{Own}
 use Rattle.nano_bin_bytes.specs.Codec.{Codec}
 use Rattle.nano_bin_bytes.specs.Variants.{Variants, variant, body, encoding_at, no_variants}
 use Rattle.nano_bin_bytes.specs.Variants.{legal_bodies}
@@ -59,6 +62,7 @@ module _ {A : Type 0} (f : Codec A) (others : Variants) {bytes : List ℕ} {star
       → ReadsNoVariant (variant (body f) others) 0 bytes start offset end error
   first_unread h = record {
     rejects = h.rejects;
+    report = λ after. report_from bytes start offset error after h.report;
     own = λ few. absurd (omega (arith, few));
     unchanged = h.unchanged;
   }
@@ -70,7 +74,8 @@ module _ {A : Type 0} (f : Codec A) (others : Variants) {bytes : List ℕ} {star
   later_unread (suc tag) some h =
       let e : suc tag - 1 ≡ tag = omega arith in
       record {
-        rejects = subst (λ n. Rejects (encoding_at others n).encodes (drop offset bytes) error) e h.rejects;
+        rejects = subst (λ n. RejectsWithMore (encoding_at others n).encodes (drop offset bytes) error) e h.rejects;
+        report = h.report;
         own = λ few. h.own (rw e (omega (arith, few)));
         unchanged = h.unchanged;
       }
@@ -93,3 +98,15 @@ unknown_content (variant b others) zero h a m e = omega (arith, h)
 unknown_content (variant b others) (suc tag) h a m e =
     let less : count_variants (legal_bodies others) ≤ tag = omega (arith, h) in
     unknown_content others tag less a m e
+
+-- no variant comes after the last: a tag other than its own is reported
+pub none_unread : {A : Type 0} (f : Codec A) (bytes : List ℕ) (start offset tag : ℕ)
+    (error : DeBinErr) → tag ≢ 0 → error ≡ rejection Own start 0 bytes
+    → ReadsNoVariant (variant (body f) no_variants) tag bytes start offset offset error
+none_unread f bytes start offset tag error some is = record {
+  rejects = λ more other fits m r.
+      unknown_content (variant (body f) no_variants) tag (omega (arith, some)) r.prefix m r.is_encoded;
+  report = λ after. unknown_reports bytes start error is;
+  own = λ few. is;
+  unchanged = refl;
+}

@@ -1,9 +1,10 @@
 -- What is proved of a type that contains itself, where its values are seen by one layer: what is
 -- read, what is rejected, and what is legal.
-use Rattle.std.proofs.Common.{◌≡◌, ◌<◌, ℕ, suc, List, [], ◌∷◌, map, refl, drop, Result, Ok, Err, IfOk, IfErr, sym, ◌∙◌, subst, ap}
+use Rattle.std.proofs.Common.{◌≡◌, ◌<◌, ℕ, suc, List, [], ◌∷◌, map, refl, Result, Ok, Err, IfOk, IfErr, sym, ◌∙◌, subst, ap}
 use Rattle.nano_bin_bytes.specs.declared.error.DeBinErr.{DeBinErr}
 use Rattle.nano_bin_bytes.specs.Codec.{Codec}
 use Rattle.nano_bin_bytes.specs.Reading.{Decodes, DecodesToNothing, ReadsNone}
+use Rattle.nano_bin_bytes.proofs.ErrorsLaws.{passed_here}
 use Rattle.nano_bin.proofs.Readers.{as_reads}
 use Rattle.nano_bin_levels.specs.Layers.{Layer, Nested}
 use Rattle.nano_bin_levels.proofs.LayersLaws.{seen_layer}
@@ -41,9 +42,9 @@ module _ {A : Type 0} (l : Nested A) where
     seen_ok (Ok x) h = seen_reads x h
     seen_ok (Err e) h = h
 
-    seen_rejected : DecodesToNothing seen_codec.encoding.encodes (drop start bytes)
-        → DecodesToNothing (nested_codec l).encoding.encodes (drop start bytes)
-    seen_rejected none m f =
+    seen_rejected : (left : List ℕ) → DecodesToNothing seen_codec.encoding.encodes left
+        → DecodesToNothing (nested_codec l).encoding.encodes left
+    seen_rejected left none m f =
         none m (record {
           prefix = f.prefix;
           rest = f.rest;
@@ -55,7 +56,7 @@ module _ {A : Type 0} (l : Nested A) where
         → IfErr r (ReadsNone seen_codec.encoding.encodes bytes start end)
         → IfErr r (ReadsNone (nested_codec l).encoding.encodes bytes start end)
     seen_err (Ok x) h = h
-    seen_err (Err e) h = record { rejects = λ other. seen_rejected (h.rejects other); unchanged = h.unchanged }
+    seen_err (Err e) h = passed_here (nested_codec l).encoding.encodes h seen_rejected
 
   -- ---- what is legal
 

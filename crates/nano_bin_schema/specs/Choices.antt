@@ -6,7 +6,7 @@ use Rattle.nano_value.specs.Sums.{tagged, count_variants}
 use Rattle.nano_bin_bytes.specs.Scalars.{little_endian}
 use Rattle.nano_bin_bytes.specs.declared.error.DeBinErr.{DeBinErr}
 use Rattle.nano_bin_bytes.specs.declared.error.DeBinKind.TheVariants.{Own}
-use Rattle.nano_bin_bytes.specs.Reading.{rejection, Decodes, Rejects}
+use Rattle.nano_bin_bytes.specs.Reading.{rejection, Decodes, RejectsWithMore, IsReport}
 use Rattle.nano_bin_bytes.specs.Codec.{Codec}
 use Rattle.nano_bin_bytes.specs.Variants.{Variants, variant, body, body_at, encoding_at}
 use Rattle.nano_bin_bytes.specs.Variants.{legal_bodies, Tagged}
@@ -55,6 +55,7 @@ pub record DecodesChoice {A : Type 0} (means : ℕ → A → Meaning) (vs : Vari
 -- was; a tag that no variant has is reported
 pub record ReadsNoVariant (vs : Variants) (tag : ℕ) (bytes : List ℕ) (start offset end : ℕ)
     (error : DeBinErr) : Type 0 where
-  pub rejects : Rejects (encoding_at vs tag).encodes (drop offset bytes) error
+  pub rejects : RejectsWithMore (encoding_at vs tag).encodes (drop offset bytes) error
+  pub report : start ≤ offset → IsReport bytes start error
   pub own : count_variants (legal_bodies vs) ≤ tag → IsUnknownTag start bytes error
   pub unchanged : end ≡ offset

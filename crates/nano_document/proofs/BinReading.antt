@@ -1,10 +1,13 @@
 -- What the readers of documents from bytes come to, by the tag that was read.
-use Rattle.std.proofs.Common.{◌≡◌, ◌≢◌, ◌<◌, ℕ, zero, suc, ◌-◌, List, ◌++◌, refl, sym, ◌∙◌, subst, drop, Global, String, string_bytes, inl, inr, arith}
+use Rattle.std.proofs.Common.{◌≡◌, ◌≢◌, ◌<◌, ℕ, zero, suc, ◌-◌, List, ◌++◌, refl, sym, ◌∙◌, subst, drop, Global, String, string_bytes, inl, inr, arith, ap, append_assoc}
 use Rattle.nano_value.specs.Meaning.{Meaning, whole, listed, text}
 use Rattle.nano_value.specs.Sums.{tagged}
 use Rattle.nano_bin_bytes.specs.Codec.{Codec, Encoding}
 use Rattle.nano_bin_bytes.specs.Scalars.{EncodesNumber, EncodesUnsigned}
-use Rattle.nano_bin_bytes.specs.Reading.{Decodes, DecodesToNothing}
+use Rattle.nano_bin_bytes.specs.declared.error.DeBinErr.{DeBinErr}
+use Rattle.nano_bin_bytes.specs.declared.error.DeBinKind.TheVariants.{Memory, Own}
+use Rattle.nano_bin_bytes.specs.Reading.{Decodes, DecodesToNothing, ReadsNone, rejection}
+use Rattle.nano_bin_bytes.proofs.ErrorsLaws.{passed_here, memory_reads_none}
 use Rattle.nano_bin_bytes.specs.Containers.{EncodesCount, EncodesList, EncodesString}
 use Rattle.nano_bin_bytes.specs.Variants.{Variant, EncodesVariant, EncodesEnum, encoding_at, variant_means}
 use Rattle.nano_bin_bytes.proofs.CodecLaws.{same_prefixes}
@@ -12,12 +15,12 @@ use Rattle.nano_meaning.proofs.MeaningLaws.{text_injective}
 use Rattle.nano_bin.specs.ContainerCodecs.{list_of}
 use Rattle.nano_bin.specs.ScalarCodecs.{texts}
 use Rattle.nano_bin.proofs.Readers.{then_reads, as_reads, unsigned_reads, unsigned_rejected, list_reads, list_rejected, list_items_rejected, image_reads, image_rejected, count_rejected}
-use Rattle.nano_bin.proofs.Variants.{content_rejected, tag_rejected}
+use Rattle.nano_bin.proofs.Variants.{content_rejected, tag_rejected, unknown_rejected, unknown_reports}
 use Rattle.nano_bin_levels.specs.Layers.{IsWithin}
 use Rattle.nano_bin_levels.specs.Places.{EncodesPlace, codecs_at}
 use Rattle.nano_bin_levels.proofs.ListsLaws.{items_within}
 use Rattle.nano_bin_levels.proofs.LevelsLaws.{level_holds, level_within, rolled, unrolled}
-use Rattle.nano_document.specs.BinCodecs.{variants, place_of, layers, bin_nested, bin_level, bin_codec, bin_entry, EncodesDocument}
+use Rattle.nano_document.specs.BinCodecs.{variants, place_of, layers, bin_nested, bin_level, bin_codec, bin_entry, EncodesDocument, RejectsFrom}
 use Rattle.nano_document.specs.Documents.{json_means}
 use Rattle.nano_document.specs.Decimals.{IsDecimal}
 use Rattle.nano_document.specs.BinScalars.{EncodesDecimal}
@@ -104,15 +107,23 @@ rejected bytes none m f =
       is_encoded = record { part = found.variant; has = found.encodes; is = refl };
     })
 
-pub no_tag : (bytes : List ℕ) (start : ℕ) → DecodesToNothing (EncodesUnsigned 2) (drop start bytes)
-    → DecodesToNothing bin_codec.encoding.encodes (drop start bytes)
-no_tag bytes start none = rejected (drop start bytes) (tag_rejected (variants bin_codec) bytes start none)
+pub no_tag : (bytes : List ℕ) (start end : ℕ) (error : DeBinErr) → ReadsNone (EncodesUnsigned 2) bytes start end error
+    → RejectsFrom bin_codec.encoding.encodes bytes start error
+no_tag bytes start end error none =
+    passed_here bin_codec.encoding.encodes (tag_rejected (variants bin_codec) bytes start end error none) rejected
 
-pub no_content : (bytes : List ℕ) (start mid tag : ℕ) → Decodes (EncodesUnsigned 2) bytes start (whole tag) mid
-    → DecodesToNothing (encoding_at (variants bin_codec) tag).encodes (drop mid bytes)
-    → DecodesToNothing bin_codec.encoding.encodes (drop start bytes)
-no_content bytes start mid tag r none =
-    rejected (drop start bytes) (content_rejected (variants bin_codec) bytes start mid tag r none)
+pub no_content : (bytes : List ℕ) (start mid end tag : ℕ) (error : DeBinErr) → Decodes (EncodesUnsigned 2) bytes start (whole tag) mid
+    → ReadsNone (encoding_at (variants bin_codec) tag).encodes bytes mid end error
+    → RejectsFrom bin_codec.encoding.encodes bytes start error
+no_content bytes start mid end tag error r none =
+    passed_here bin_codec.encoding.encodes (content_rejected (variants bin_codec) bytes start mid end tag error r none) rejected
+
+-- a tag that no variant has is reported
+pub unknown_tag : (bytes : List ℕ) (start mid tag : ℕ) (error : DeBinErr) → Decodes (EncodesUnsigned 2) bytes start (whole tag) mid
+    → ((a : List ℕ) (m : Meaning) → (encoding_at (variants bin_codec) tag).encodes a m → ⊥)
+    → error ≡ rejection Own start 0 bytes → RejectsFrom bin_codec.encoding.encodes bytes start error
+unknown_tag bytes start mid tag error r none is =
+    passed_here bin_codec.encoding.encodes (unknown_rejected (variants bin_codec) bytes start mid tag error r none is) rejected
 
 -- a tag that no variant has
 pub no_variant : (tag : ℕ) → tag ≢ 0 → tag ≢ 1 → tag ≢ 2 → tag ≢ 3 → tag ≢ 4 → tag ≢ 5 → tag ≢ 6 → tag ≢ 7
@@ -131,21 +142,30 @@ no_variant (suc (suc (suc (suc (suc (suc (suc (suc tag)))))))) a b c d e f g h b
 
 module _ (s t : Encoding) (w : IsWithin s t) (bytes : List ℕ) (start : ℕ) where
   -- so many items were read, and then none
-  pub item_rejected : (mid end count more : ℕ) (xs : List Meaning) → Decodes (EncodesUnsigned 8) bytes start (whole count) mid
-      → Decodes (EncodesCount more s.encodes) bytes mid xs end → more < count → DecodesToNothing t.encodes (drop end bytes)
-      → DecodesToNothing (list_of t).encodes (drop start bytes)
-  item_rejected mid end count more xs counted read less none =
+  pub item_rejected : (mid end count more : ℕ) (xs : List Meaning) (error : DeBinErr) → Decodes (EncodesUnsigned 8) bytes start (whole count) mid
+      → Decodes (EncodesCount more s.encodes) bytes mid xs end → more < count → RejectsFrom t.encodes bytes end error
+      → RejectsFrom (list_of t).encodes bytes start error
+  item_rejected mid end count more xs error counted read less none =
       let there = as_reads (EncodesCount more t.encodes) bytes mid end xs xs read
       (λ a h. record { count_is = h.count_is; items = items_within s t w xs a h.items }) in
-      image_rejected (EncodesList t.encodes) listed (drop start bytes)
-      (list_items_rejected t.encodes bytes start mid count (unsigned_reads 8 bytes start mid count counted)
-      (count_rejected t.encodes t.laws bytes mid end more count xs there less none))
+      image_rejected (EncodesList t.encodes) listed
+      (list_items_rejected t.encodes (unsigned_reads 8 bytes start mid count counted)
+      (count_rejected t.encodes t.laws there less none))
+
+  -- no memory for one more item
+  pub no_memory_for_items : (mid end last count more : ℕ) (xs : List Meaning) (x : Meaning) (error : DeBinErr)
+      → Decodes (EncodesUnsigned 8) bytes start (whole count) mid → Decodes (EncodesCount more s.encodes) bytes mid xs end
+      → Decodes s.encodes bytes end x last → error ≡ rejection Memory last 0 bytes
+      → RejectsFrom (list_of t).encodes bytes start error
+  no_memory_for_items mid end last count more xs x error counted read item is =
+      let one = counted.moved in
+      let two = read.moved in
+      let three = item.moved in
+      memory_reads_none (list_of t).encodes bytes start last error (omega (arith, one, two, three)) is
 
 module _ (s : Encoding) (bytes : List ℕ) (start : ℕ) where
-  pub no_count : DecodesToNothing (EncodesUnsigned 8) (drop start bytes) → DecodesToNothing (list_of s).encodes (drop start bytes)
-  no_count none =
-      image_rejected (EncodesList s.encodes) listed (drop start bytes)
-      (list_rejected s.encodes (drop start bytes) (unsigned_rejected 8 (drop start bytes) none))
+  pub no_count : (end : ℕ) (error : DeBinErr) → ReadsNone (EncodesUnsigned 8) bytes start end error → RejectsFrom (list_of s).encodes bytes start error
+  no_count end error none = image_rejected (EncodesList s.encodes) listed (list_rejected s.encodes (unsigned_rejected 8 none))
 
   pub items_read : (mid end count : ℕ) (xs : List Meaning) → Decodes (EncodesUnsigned 8) bytes start (whole count) mid
       → Decodes (EncodesCount count s.encodes) bytes mid xs end → Decodes (list_of s).encodes bytes start (listed xs) end
@@ -179,15 +199,23 @@ no_text bytes none m f =
     none m (record { prefix = f.prefix; rest = f.rest; whole = f.whole; is_encoded = as_string f.prefix m f.is_encoded })
 
 -- where another text stands, no decimal does
-pub no_decimal : (bytes : List ℕ) (start end : ℕ) (utf8 : List ℕ) → Decodes EncodesString bytes start (text utf8) end
-    → (IsDecimal utf8 → ⊥) → DecodesToNothing EncodesDecimal (drop start bytes)
-no_decimal bytes start end utf8 r other m f =
-    let string = as_string f.prefix m f.is_encoded in
-    let e = same_prefixes texts.laws f.prefix r.prefix f.rest (drop end bytes) m (text utf8) string r.is_encoded (sym f.whole ∙ r.whole) in
-    let there = subst (λ l. EncodesString l m) e.0 string in
-    let same = texts.laws.one_value r.prefix m (text utf8) there r.is_encoded in
-    let part = text_injective f.is_encoded.part utf8 (sym f.is_encoded.is ∙ same) in
-    other (subst IsDecimal part f.is_encoded.has.is_decimal)
+pub no_decimal : (bytes : List ℕ) (start end : ℕ) (utf8 : List ℕ) (error : DeBinErr) → Decodes EncodesString bytes start (text utf8) end
+    → (IsDecimal utf8 → ⊥) → error ≡ rejection Own start 0 bytes → RejectsFrom EncodesDecimal bytes start error
+no_decimal bytes start end utf8 error r other is = record {
+  rejects = λ more kind fits. never more;
+  report = unknown_reports bytes start error is;
+  unchanged = refl;
+}
+  where
+    never : (more : List ℕ) → DecodesToNothing EncodesDecimal (drop start bytes ++ more)
+    never more m f =
+        let string = as_string f.prefix m f.is_encoded in
+        let left = ap (λ l. l ++ more) r.whole ∙ append_assoc r.prefix (drop end bytes) more in
+        let e = same_prefixes texts.laws f.prefix r.prefix f.rest (drop end bytes ++ more) m (text utf8) string r.is_encoded (sym f.whole ∙ left) in
+        let there = subst (λ l. EncodesString l m) e.0 string in
+        let same = texts.laws.one_value r.prefix m (text utf8) there r.is_encoded in
+        let part = text_injective f.is_encoded.part utf8 (sym f.is_encoded.is ∙ same) in
+        other (subst IsDecimal part f.is_encoded.has.is_decimal)
 
 -- where one stands, it is one
 pub decimal_reads : (bytes : List ℕ) (start end : ℕ) (utf8 : List ℕ) → Decodes EncodesString bytes start (text utf8) end

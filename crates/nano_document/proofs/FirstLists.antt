@@ -15,6 +15,8 @@ use Rattle.nano_grammar.specs.Outcomes.{Report, Position, Fails, Read}
 use Rattle.nano_grammar.proofs.CollectingCalls.{Filled, all_lead}
 use Rattle.nano_grammar.proofs.Containers.{read_opening_leads, read_item_leads, read_comma_leads}
 use Rattle.nano_grammar.proofs.Containers.{read_closing_leads, item_taken}
+use Rattle.nano_grammar.proofs.ItemLaws.{ends_at}
+use Rattle.nano_grammar.proofs.ListsLaws.{as_item}
 use Rattle.nano_grammar.proofs.TokensLaws.{tokens_left}
 use Rattle.nano_grammar.proofs.TupleCalls.{not_closing}
 use Rattle.nano_json_tokens.specs.Cut.{Cut, json_grammar}
@@ -147,7 +149,7 @@ module _ (punctuation : ListPunctuation Token) (are : AreBrackets json_grammar p
       → Fails (GoesWrongFirst All start end) start end e
   opening_first {start} bad =
       let leads = all_lead json_laws punctuation are s holds listed (Alone punctuation.opening) []
-      start.at.token (read_opening_leads json_laws s punctuation are start.at.token) in
+      start.at.token (read_opening_leads json_laws punctuation are (as_item s punctuation) start.at.token) in
       first_part All (Alone punctuation.opening) leads (λ us _ is. opening_begins us is) bad
 
   pub item_first : {start here end : Position Token} {x : C} {e : Report}
@@ -159,7 +161,7 @@ module _ (punctuation : ListPunctuation Token) (are : AreBrackets json_grammar p
       let read = h.read.read in
       let ts = read.so_far.prefix in
       let leads = all_lead json_laws punctuation are s holds listed S ts here.at.token
-      (read_item_leads json_laws s punctuation are start.at here.at h.read.items read other) in
+      (read_item_leads json_laws punctuation are (as_item s punctuation) start.at here.at h.read.items read other) in
       first_in All S ts leads read.so_far.taken h.place (inr (closed_begins h few))
       (item_begins h few other) bad
 
@@ -175,9 +177,10 @@ module _ (punctuation : ListPunctuation Token) (are : AreBrackets json_grammar p
       let n = not_closing json_laws punctuation are s here.at mid.at v i in
       let ts = read.so_far.prefix ++ i.0 in
       let leads = all_lead json_laws punctuation are s holds listed (Alone punctuation.comma) ts
-      mid.at.token (read_comma_leads json_laws s punctuation are start.at here.at h.read.items read mid.at v n i other) in
+      mid.at.token (read_comma_leads json_laws punctuation are (as_item s punctuation) start.at here.at h.read.items read mid.at v n i
+      (ends_at S s.none_begins i.0 v i.1 mid.at.token) other) in
       first_in All (Alone punctuation.comma) ts leads
-      (item_taken json_laws s punctuation are start.at here.at h.read.items read mid.at v i)
+      (item_taken json_laws punctuation are (as_item s punctuation) start.at here.at h.read.items read mid.at v i)
       (moves_append h.place item.place) (inr (item_begins h few n i.0 v i.1))
       (λ us _ is. comma_begins h few n i.0 v i.1 us is) bad
 
@@ -190,6 +193,6 @@ module _ (punctuation : ListPunctuation Token) (are : AreBrackets json_grammar p
       let read = h.read.read in
       let ts = read.so_far.prefix in
       let leads = all_lead json_laws punctuation are s holds listed (Alone punctuation.closing) ts
-      here.at.token (read_closing_leads json_laws s punctuation are start.at here.at h.read.items read is) in
+      here.at.token (read_closing_leads json_laws punctuation are (as_item s punctuation) start.at here.at h.read.items read is) in
       first_in All (Alone punctuation.closing) ts leads read.so_far.taken h.place
       (inr (closed_begins h few)) (λ us _ same. closing_begins h few us same) bad

@@ -7,6 +7,8 @@ use Rattle.std.proofs.Common.{◌∙◌, ap, inl, inr, lit<}
 use Rattle.nano_value.specs.Meaning.{Meaning, number, text, IsImage}
 use Rattle.nano_value.specs.Sums.{tagged}
 use Rattle.nano_bin_bytes.specs.Codec.{Codec, Encoding}
+use Rattle.nano_bin_bytes.specs.declared.error.DeBinErr.{DeBinErr}
+use Rattle.nano_bin_bytes.specs.Reading.{ReadsNone}
 use Rattle.nano_bin_bytes.specs.BaseCodecs.{codec_as}
 use Rattle.nano_bin_bytes.specs.Variants.{Variants, no_variants, variant, body, Variant}
 use Rattle.nano_bin_bytes.specs.Variants.{EncodesVariant}
@@ -191,3 +193,9 @@ pub record EncodesDocument (bytes : List ℕ) (m : Meaning) : Type 0 where
   pub variant : Variant
   pub encodes : EncodesVariant (variants bin_codec) bytes variant
   pub is : m ≡ tagged (place_of variant.tag) variant.content
+
+-- ---- what a reader answers
+
+-- an error of a reader that began at this offset, wherever it leaves the offset
+abbrev pub RejectsFrom : (List ℕ → Meaning → Type 0) → List ℕ → ℕ → DeBinErr → Type 0
+RejectsFrom encodes bytes start error = ReadsNone encodes bytes start start error

@@ -2,13 +2,14 @@
 //!
 //! On an error, a reader here may leave the offset at any position, unless it says where.
 
-ghost use Rattle.std.specs.Prelude.{◌≡◌, refl, map, drop, string_bytes, IfOk, IfErr};
+ghost use Rattle.std.specs.Prelude.{◌≡◌, refl, map, string_bytes, IfOk, IfErr};
 ghost use Rattle.nano_value.specs.Meaning.{text, listed};
-ghost use Rattle.nano_bin_bytes.specs.Reading.{rejection, Decodes, Rejects};
+ghost use Rattle.nano_bin_bytes.specs.Reading.{rejection, Decodes};
 ghost use Rattle.nano_bin_bytes.specs.declared.error.DeBinKind.TheVariants.{Own};
 ghost use Rattle.nano_bin.specs.ContainerCodecs.{list_of};
 ghost use Rattle.nano_document.specs.Documents.{json_means, entry_means};
 ghost use Rattle.nano_document.specs.BinCodecs.{bin_decimals, bin_level, bin_codec, bin_entry};
+ghost use Rattle.nano_document.specs.BinCodecs.{RejectsFrom};
 
 use crate::decimal::is_decimal;
 use crate::json::Json;
@@ -33,7 +34,7 @@ fn no_document(place: usize, bytes: &[u8]) -> DeBinErr
 fn read_decimal(alloc: Global, offset: &mut usize, bytes: &[u8]) -> Result<String, DeBinErr>
     ensures ok { IfOk result (λ s.
         Decodes bin_decimals.encodes bytes.now offset.old (text (string_bytes s)) offset.new) }
-    ensures err { IfErr result (Rejects bin_decimals.encodes (drop offset.old bytes.now)) }
+    ensures err { IfErr result (RejectsFrom bin_decimals.encodes bytes.now offset.old) }
 {
     let start = *offset;
     let text = String::de_bin(alloc, offset, bytes)?;
@@ -53,7 +54,7 @@ fn read_json(
 ) -> Result<Json, DeBinErr>
     ensures ok { IfOk result (λ json. Decodes (bin_level levels).encoding.encodes
         bytes.now offset.old (json_means json) offset.new) }
-    ensures err { IfErr result (Rejects bin_codec.encoding.encodes (drop offset.old bytes.now)) }
+    ensures err { IfErr result (RejectsFrom bin_codec.encoding.encodes bytes.now offset.old) }
 {
     let start = *offset;
     if levels == 0 {
@@ -83,7 +84,7 @@ fn read_items(
     ensures ok { IfOk result (λ items. Decodes (list_of (bin_level levels).encoding).encodes
         bytes.now offset.old (listed (map json_means items.items)) offset.new) }
     ensures err { IfErr result
-        (Rejects (list_of bin_codec.encoding).encodes (drop offset.old bytes.now)) }
+        (RejectsFrom (list_of bin_codec.encoding).encodes bytes.now offset.old) }
 {
     let count = usize::de_bin(alloc, offset, bytes)?;
     let mut items = Vec::new(alloc);
@@ -107,7 +108,7 @@ fn read_entries(
     ensures ok { IfOk result (λ entries. Decodes (list_of (bin_entry (bin_level levels))).encodes
         bytes.now offset.old (listed (map (entry_means json_means) entries.items)) offset.new) }
     ensures err { IfErr result
-        (Rejects (list_of (bin_entry bin_codec)).encodes (drop offset.old bytes.now)) }
+        (RejectsFrom (list_of (bin_entry bin_codec)).encodes bytes.now offset.old) }
 {
     let count = usize::de_bin(alloc, offset, bytes)?;
     let mut entries = Vec::new(alloc);
@@ -131,7 +132,7 @@ fn read_entry(
     ensures ok { IfOk result (λ entry. Decodes (bin_entry (bin_level levels)).encodes
         bytes.now offset.old (entry_means json_means entry) offset.new) }
     ensures err { IfErr result
-        (Rejects (bin_entry bin_codec).encodes (drop offset.old bytes.now)) }
+        (RejectsFrom (bin_entry bin_codec).encodes bytes.now offset.old) }
 {
     let name = String::de_bin(alloc, offset, bytes)?;
     let value = read_json(alloc, levels, offset, bytes)?;

@@ -12,6 +12,8 @@ use Rattle.nano_grammar.proofs.Containers.{ReadSoFar, read_start, read_next, rea
 use Rattle.nano_grammar.proofs.Containers.{read_opening_leads, read_item_leads, read_comma_leads}
 use Rattle.nano_grammar.proofs.Containers.{read_closing_leads, item_taken, item_shorter}
 use Rattle.nano_grammar.proofs.FaultLaws.{LeadsTo, wrong_in}
+use Rattle.nano_grammar.proofs.ItemLaws.{ends_at}
+use Rattle.nano_grammar.proofs.ListsLaws.{as_item}
 use Rattle.nano_grammar.proofs.PartReading.{CommaTaken}
 use Rattle.nano_grammar.proofs.Reading.{image_spans, list_spans, count_spans}
 use Rattle.nano_text.proofs.PlaceLaws.{moves_append}
@@ -36,7 +38,7 @@ module _ {T : Type 0} {c : Cutting T} {g : Grammar T} (r : CutLaws c g)
     pub collected_start : (start here : At T) (x : C) → holds x []
         → Leaves c.cut (punctuation.opening ∷ []) start here → Collected holds S start here x
     collected_start start here x h l =
-        record { items = []; held = h; read = read_start r s punctuation are start here l }
+        record { items = []; held = h; read = read_start r punctuation are (as_item s punctuation) start here l }
 
     pub collected_next : (start here following next : At T) (x y : C) (v : V)
         → Collected holds S start here x → here.token ≢ punctuation.closing
@@ -45,7 +47,7 @@ module _ {T : Type 0} {c : Cutting T} {g : Grammar T} (r : CutLaws c g)
     collected_next start here following next x y v h n i taken put = record {
       items = h.items ++ v ∷ [];
       held = put h.items h.held;
-      read = read_next r s punctuation are start here following next h.items v h.read n i taken;
+      read = read_next r punctuation are (as_item s punctuation) start here following next h.items v h.read n i taken;
     }
 
     module _ (whole : List V → Meaning) where
@@ -57,8 +59,8 @@ module _ {T : Type 0} {c : Cutting T} {g : Grammar T} (r : CutLaws c g)
           → Leaves c.cut (punctuation.closing ∷ []) here end
           → Spans c.cut (EncodesAll punctuation whole S) start end (means x)
       collected_found means is start here end x h few k =
-          let count = read_few r s punctuation are start here h.items h.read few in
-          let list = read_found r s punctuation are start here end h.items h.read k in
+          let count = read_few r punctuation are (as_item s punctuation) start here h.items h.read few in
+          let list = read_found r punctuation are (as_item s punctuation) start here end h.items h.read k in
           let all = list_spans r punctuation S start end h.items count list in
           subst (λ (m : Meaning). Spans c.cut (EncodesAll punctuation whole S) start end m)
           (sym (is x h.items h.held)) (image_spans c whole start end h.items all)
@@ -104,7 +106,7 @@ module _ {T : Type 0} {c : Cutting T} {g : Grammar T} (r : CutLaws c g)
         → TookComma c.cut buffered mid next punctuation.comma punctuation.closing same
         → tokens_left r.is_end next.at < tokens_left r.is_end here.at
     turn_shorter {here = here} {mid} {next} {v} item comma =
-        item_shorter r s punctuation are here.at mid.at next.at v item.decodes comma.taken
+        item_shorter r punctuation are (as_item s punctuation) here.at mid.at next.at v item.decodes comma.taken
 
     module _ {C : Type 0} (holds : C → List V → Type 0) where
       pub filled_none : {buffered : Type 0} {start here : Position T} (x : C) → holds x []
@@ -141,8 +143,9 @@ module _ {T : Type 0} {c : Cutting T} {g : Grammar T} (r : CutLaws c g)
           let i = item.decodes in
           let n = not_closing r punctuation are s here.at mid.at v i in (
             read.so_far.prefix ++ i.0,
-            read_comma_leads r s punctuation are start.at here.at h.read.items read mid.at v n i,
-            item_taken r s punctuation are start.at here.at h.read.items read mid.at v i,
+            read_comma_leads r punctuation are (as_item s punctuation) start.at here.at h.read.items read mid.at v n i
+                (ends_at S s.none_begins i.0 v i.1 mid.at.token),
+            item_taken r punctuation are (as_item s punctuation) start.at here.at h.read.items read mid.at v i,
           )
 
       -- ---- any number of items
@@ -167,7 +170,7 @@ module _ {T : Type 0} {c : Cutting T} {g : Grammar T} (r : CutLaws c g)
             let Opening = AreTokens (punctuation.opening ∷ []) in
             none_first c.cut All Opening
             (all_lead r punctuation are s holds whole Opening [] start.at.token
-            (read_opening_leads r s punctuation are start.at.token)) h
+            (read_opening_leads r punctuation are (as_item s punctuation) start.at.token)) h
 
         pub item_not : {start here end : Position T} {x : C} {e : Report} → Filled holds S start here x
             → here.at.token ≢ punctuation.closing → ReadsNone c.cut S here end e → ReadsNone c.cut All start end e
@@ -176,7 +179,7 @@ module _ {T : Type 0} {c : Cutting T} {g : Grammar T} (r : CutLaws c g)
             let ts = read.so_far.prefix in
             none_in c.cut All S ts
             (all_lead r punctuation are s holds whole S ts here.at.token
-            (read_item_leads r s punctuation are start.at here.at h.read.items read other))
+            (read_item_leads r punctuation are (as_item s punctuation) start.at here.at h.read.items read other))
             read.so_far.taken h.place bad
 
         pub comma_not : {start here mid end : Position T} {x : C} {v : V} {e : Report} → Filled holds S start here x
@@ -197,7 +200,7 @@ module _ {T : Type 0} {c : Cutting T} {g : Grammar T} (r : CutLaws c g)
             let Closing = AreTokens (punctuation.closing ∷ []) in
             none_in c.cut All Closing ts
             (all_lead r punctuation are s holds whole Closing ts here.at.token
-            (read_closing_leads r s punctuation are start.at here.at h.read.items read is))
+            (read_closing_leads r punctuation are (as_item s punctuation) start.at here.at h.read.items read is))
             read.so_far.taken h.place bad
 
       -- ---- so many items
@@ -212,7 +215,7 @@ module _ {T : Type 0} {c : Cutting T} {g : Grammar T} (r : CutLaws c g)
             → Read c.cut (λ ts. IsImage whole (EncodesCount punctuation count S ts)) start end (means x)
         array_read {start = start} {here} {end} {x} means is h bracket =
             let all = is h.read.items h.read.held in
-            let list = read_found r s punctuation are start.at here.at end.at h.read.items h.read.read bracket.taken in
+            let list = read_found r punctuation are (as_item s punctuation) start.at here.at end.at h.read.items h.read.read bracket.taken in
             let array = image_spans c whole start.at end.at h.read.items (count_spans r punctuation S start.at count end.at h.read.items all.1 list) in
             subst (Read c.cut (λ ts. IsImage whole (EncodesCount punctuation count S ts)) start end) (sym all.0)
             (record { decodes = array; place = moves_append h.place bracket.place })
@@ -223,7 +226,7 @@ module _ {T : Type 0} {c : Cutting T} {g : Grammar T} (r : CutLaws c g)
             let Opening = AreTokens (punctuation.opening ∷ []) in
             none_first c.cut Array Opening
             (array_leads r punctuation are s holds whole Opening count [] start.at.token
-            (read_opening_leads r s punctuation are start.at.token)) h
+            (read_opening_leads r punctuation are (as_item s punctuation) start.at.token)) h
 
         pub array_item_not : {start here end : Position T} {x : C} {e : Report} → Filled holds S start here x
             → ((vs : List V) → holds x vs → length vs < count)

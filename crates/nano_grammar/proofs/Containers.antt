@@ -6,8 +6,9 @@ use Rattle.nano_grammar.proofs.TokensLaws.{CutLaws, tokens_left, leaves_shorter,
 use Rattle.nano_grammar.specs.Tokens.{Cutting, At, Leaves, Spans}
 use Rattle.nano_grammar.specs.Faults.{AreTokens}
 use Rattle.nano_grammar.specs.Items.{ListPunctuation, EncodedList}
-use Rattle.nano_grammar.proofs.ListsLaws.{no_item_closes}
-use Rattle.nano_grammar.specs.Codec.{Grammar, IsEncoding, AreBrackets}
+use Rattle.nano_grammar.proofs.ListsLaws.{no_item_closes, IsItem}
+use Rattle.nano_grammar.proofs.ItemLaws.{EndsAt}
+use Rattle.nano_grammar.specs.Codec.{Grammar, AreBrackets}
 use Rattle.nano_grammar.proofs.FaultLaws.{LeadsTo}
 use Rattle.nano_grammar.proofs.ListReading.{SoFar, start_so_far, item_left, next_so_far, close_found}
 use Rattle.nano_grammar.proofs.ListReading.{opening_leads, item_leads, comma_leads, closing_leads}
@@ -26,14 +27,14 @@ module _ {T : Type 0} {c : Cutting T} {g : Grammar T} (r : CutLaws c g) where
       → tokens_left r.is_end end ≤ tokens_left r.is_end start
   taken_shorter = leaves_shorter c.cut r.is_end r.shorter
 
-  module _ {V : Type 0} {P : V → Type 0} {S : List T → V → Type 0} (s : IsEncoding g P S)
-      (punctuation : ListPunctuation T) (are : AreBrackets g punctuation) where
+  module _ {V : Type 0} {S : List T → V → Type 0} (punctuation : ListPunctuation T)
+      (are : AreBrackets g punctuation) (s : IsItem g punctuation S) where
     pub read_start : (start here : At T) → Leaves c.cut (punctuation.opening ∷ []) start here
         → ReadSoFar punctuation S start here []
     read_start start here h =
-        let closes = no_item_closes g s punctuation are in
+        let closes = no_item_closes g punctuation are s in
         record {
-          so_far = start_so_far c.cut punctuation are.apart S s.none_begins closes start here h;
+          so_far = start_so_far c.cut punctuation are.apart S s.in_list closes start here h;
           count = omega (arith, taken_shorter (punctuation.opening ∷ []) start here h);
         }
 
@@ -53,11 +54,11 @@ module _ {T : Type 0} {c : Cutting T} {g : Grammar T} (r : CutLaws c g) where
         → Spans c.cut S here following v → CommaTaken c.cut punctuation following next
         → ReadSoFar punctuation S start next (out ++ v ∷ [])
     read_next start here following next out v h n i taken =
-        let closes = no_item_closes g s punctuation are in
+        let closes = no_item_closes g punctuation are s in
         let way = either_way taken in
         record {
           so_far =
-              next_so_far c.cut punctuation are.apart S s.none_begins closes start here following next out v h.so_far n i way;
+              next_so_far c.cut punctuation are.apart S s.in_list closes start here following next out v h.so_far n i way;
           count =
               omega (arith, h.count, item_shorter here following next v i taken, length-append out (v ∷ []));
         }
@@ -67,8 +68,8 @@ module _ {T : Type 0} {c : Cutting T} {g : Grammar T} (r : CutLaws c g) where
         → Leaves c.cut (punctuation.closing ∷ []) here end
         → Spans c.cut (EncodedList punctuation S) start end out
     read_found start here end out h k =
-        let closes = no_item_closes g s punctuation are in
-        close_found c.cut punctuation are.apart S s.none_begins closes start here end out h.so_far k
+        let closes = no_item_closes g punctuation are s in
+        close_found c.cut punctuation are.apart S s.in_list closes start here end out h.so_far k
 
     pub read_few : (start here : At T) (out : List V) → ReadSoFar punctuation S start here out
         → tokens_left r.is_end start < usize_bound → length out < usize_bound
@@ -79,31 +80,32 @@ module _ {T : Type 0} {c : Cutting T} {g : Grammar T} (r : CutLaws c g) where
     pub read_opening_leads : (pending : T)
         → LeadsTo (EncodedList punctuation S) (AreTokens (punctuation.opening ∷ [])) [] pending
     read_opening_leads =
-        let closes = no_item_closes g s punctuation are in
-        opening_leads c.cut punctuation are.apart S s.none_begins closes
+        let closes = no_item_closes g punctuation are s in
+        opening_leads c.cut punctuation are.apart S s.in_list closes
 
     module _ (start here : At T) (out : List V) (h : ReadSoFar punctuation S start here out) where
       pub read_item_leads : here.token ≢ punctuation.closing
           → LeadsTo (EncodedList punctuation S) S h.so_far.prefix here.token
       read_item_leads =
-          let closes = no_item_closes g s punctuation are in
-          item_leads c.cut punctuation are.apart S s.none_begins closes start here out h.so_far
+          let closes = no_item_closes g punctuation are s in
+          item_leads c.cut punctuation are.apart S s.in_list closes start here out h.so_far
 
       pub read_comma_leads : (following : At T) (v : V) (n : here.token ≢ punctuation.closing)
-          → (i : Spans c.cut S here following v) → following.token ≢ punctuation.closing
+          → (i : Spans c.cut S here following v) → EndsAt S i.0 following.token
+          → following.token ≢ punctuation.closing
           → LeadsTo (EncodedList punctuation S) (AreTokens (punctuation.comma ∷ []))
           (h.so_far.prefix ++ i.0) following.token
-      read_comma_leads following v n i =
-          let closes = no_item_closes g s punctuation are in
+      read_comma_leads following v n i ends =
+          let closes = no_item_closes g punctuation are s in
           let so_far = h.so_far in
-          comma_leads c.cut punctuation are.apart S s.none_begins closes (so_far.prefix ++ i.0) following.token
-          (item_left c.cut punctuation are.apart S s.none_begins closes here following so_far.prefix i.0 v so_far.still n i.1 i.2)
+          comma_leads c.cut punctuation are.apart S s.in_list closes (so_far.prefix ++ i.0) following.token
+          (item_left c.cut punctuation are.apart S s.in_list closes here following so_far.prefix i.0 v so_far.still n i.1 i.2 ends)
 
       pub read_closing_leads : here.token ≡ punctuation.closing
           → LeadsTo (EncodedList punctuation S) (AreTokens (punctuation.closing ∷ [])) h.so_far.prefix here.token
       read_closing_leads =
-          let closes = no_item_closes g s punctuation are in
-          closing_leads c.cut punctuation are.apart S s.none_begins closes start here out h.so_far
+          let closes = no_item_closes g punctuation are s in
+          closing_leads c.cut punctuation are.apart S s.in_list closes start here out h.so_far
 
       -- the tokens of an item that was read, after those so far
       pub item_taken : (following : At T) (v : V) (i : Spans c.cut S here following v)

@@ -1,5 +1,5 @@
 -- What is proved of Fields.
-use Rattle.std.specs.Prelude.{◌≡◌, ◌⊎◌, ℕ, List, None, bytes_eq, Bool, true, false, [], ◌∷◌, ◌++◌}
+use Rattle.std.specs.Prelude.{◌≡◌, ◌≢◌, ◌⊎◌, ℕ, List, None, bytes_eq, Bool, true, false, [], ◌∷◌, ◌++◌}
 use Rattle.std.specs.Prelude.{◌||◌, Option, Some, refl, if◌then◌else◌}
 use Rattle.std.proofs.Common.{sym, ◌∙◌, ap, subst, inl, inr, append-nil}
 use Rattle.std.proofs.lemmas.Bool.{or_parts}
@@ -12,7 +12,8 @@ use Rattle.nano_grammar.specs.Fields.{others, Apart, IsShape, later, unless_know
 use Rattle.nano_meaning.proofs.MeaningLaws.{none_is_legal, pair_weaker}
 use Rattle.nano_grammar.specs.Tokens.{NoneBeginsAnother, Cutting}
 use Rattle.nano_grammar.specs.Items.{EncodedList, OneValue}
-use Rattle.nano_grammar.proofs.ListsLaws.{between_one, between_apart, list_begins}
+use Rattle.nano_grammar.proofs.ListsLaws.{between_one, between_apart, list_begins, IsItem}
+use Rattle.nano_grammar.proofs.ItemLaws.{EndsAt}
 
 -- ---- the shapes
 
@@ -43,9 +44,47 @@ same_field {T} f g n v =
     ∙ ap (λ (x : List T). record { name = g.name; value = x }) v
 
 module _ {T : Type 0} {c : Cutting T} {g : Grammar T} (s : FieldStyle c g) where
-  pub allowed_apart : (shape : Shape T) → Apart shape.takes → Apart (Allowed s shape)
-  allowed_apart shape law name =
-      choose_apart (shape.knows name) (shape.takes name) s.Skipped (law name) s.skipped_apart
+  -- what may come after a name, in a list
+  abbrev pub ValuesApart : (List ℕ → List T → Type 0) → Type 0
+  ValuesApart takes = (name : List ℕ) (us more : List T) (t : T) → takes name us
+      → takes name (us ++ t ∷ more) → (t ≢ s.list.tokens.comma) × (t ≢ s.list.tokens.closing)
+
+  -- of what may come after a known name nothing goes on
+  known_apart : (p : List T → Type 0) → ((us more : List T) → p us → p (us ++ more) → more ≡ [])
+      → (us more : List T) (t : T) → p us → p (us ++ t ∷ more) → ⊥
+  known_apart p law us more t h k =
+      let none = law us (t ∷ more) h k in
+      cc none
+
+  choose_in_list : (b : Bool) (p : List T → Type 0)
+      → ((us more : List T) → p us → p (us ++ more) → more ≡ []) → (us more : List T) (t : T)
+      → either b (p us) (s.Skipped us) → either b (p (us ++ t ∷ more)) (s.Skipped (us ++ t ∷ more))
+      → (t ≢ s.list.tokens.comma) × (t ≢ s.list.tokens.closing)
+  choose_in_list true p law us more t h k = absurd (known_apart p law us more t h k)
+  choose_in_list false p law us more t h k = s.skipped_apart us more t h k
+
+  pub allowed_apart : (shape : Shape T) → Apart shape.takes → ValuesApart (Allowed s shape)
+  allowed_apart shape law name us more t =
+      choose_in_list (shape.knows name) (shape.takes name) (law name) us more t
+
+  -- a value that may come after a name ends where that token is pending: no longer one may
+  abbrev pub ValueEndsAt : (List ℕ → List T → Type 0) → List ℕ → List T → T → Type 0
+  ValueEndsAt takes name us t = (more : List T) → takes name (us ++ t ∷ more) → ⊥
+
+  choose_ends : (b : Bool) (p : List T → Type 0)
+      → ((us more : List T) → p us → p (us ++ more) → more ≡ []) → (us : List T) (t : T)
+      → (b ≡ false → s.Skipped us → (more : List T) → s.Skipped (us ++ t ∷ more) → ⊥)
+      → either b (p us) (s.Skipped us) → (more : List T)
+      → either b (p (us ++ t ∷ more)) (s.Skipped (us ++ t ∷ more)) → ⊥
+  choose_ends true p law us t ends h more k = known_apart p law us more t h k
+  choose_ends false p law us t ends h more k = ends refl h more k
+
+  -- a known value always ends, and a skipped one where no longer one may be skipped
+  pub allowed_ends : (shape : Shape T) → Apart shape.takes → (name : List ℕ) (us : List T) (t : T)
+      → (shape.knows name ≡ false → s.Skipped us → (more : List T) → s.Skipped (us ++ t ∷ more) → ⊥)
+      → Allowed s shape name us → ValueEndsAt (Allowed s shape) name us t
+  allowed_ends shape law name us t ends h =
+      choose_ends (shape.knows name) (shape.takes name) (law name) us t ends h
 
   -- ---- one field
 
@@ -63,22 +102,32 @@ module _ {T : Type 0} {c : Cutting T} {g : Grammar T} (s : FieldStyle c g) where
         let same = fields_meet f.name g.name f.value g.value (sym h.0 ∙ k.0) in
         same_field f g same.0 same.1
 
-    field_none_begins : Apart takes → NoneBeginsAnother (EncodedField s takes)
-    field_none_begins law ts more f g h k =
+    -- a field that another begins has its name, and a value that the other's begins
+    longer_value : (ts more : List T) (f g : Field T) → EncodedField s takes ts f
+        → EncodedField s takes (ts ++ more) g
+        → (f.name ≡ g.name) × takes f.name (f.value ++ more)
+    longer_value ts more f g h k =
         let same =
         fields_meet f.name g.name (f.value ++ more) g.value
-        (sym (ap (λ (xs : List T). xs ++ more) h.0) ∙ k.0) in
-        law g.name f.value more (subst (λ (x : List ℕ). takes x f.value) same.0 h.1)
-        (subst (λ (us : List T). takes g.name us) (sym same.1) k.1)
+        (sym (ap (λ (xs : List T). xs ++ more) h.0) ∙ k.0) in (
+          same.0,
+          subst (λ (x : List ℕ). takes x (f.value ++ more)) (sym same.0)
+              (subst (λ (us : List T). takes g.name us) (sym same.1) k.1),
+        )
 
-    -- a field is encoded as a value is: it begins with a name
-    pub field_encoding : Apart takes → IsEncoding g (λ _. Unit {0}) (EncodedField s takes)
-    field_encoding law = record {
-      is_legal = λ ts f h. tt;
+    -- a field begins with a name
+    pub field_item : ValuesApart takes → IsItem g s.list.tokens (EncodedField s takes)
+    field_item law = record {
       one_value = field_one_value;
-      none_begins = field_none_begins law;
+      in_list = λ ts more t f g h k.
+          law f.name f.value more t h.1 (longer_value ts (t ∷ more) f g h k).1;
       begins = λ ts f h. subst (BeginsValue g) (sym h.0) (s.begins f.name);
     }
+
+    -- it ends where its value does
+    pub field_ends : (ts : List T) (f : Field T) (t : T) → EncodedField s takes ts f
+        → ValueEndsAt takes f.name f.value t → EndsAt (EncodedField s takes) ts t
+    field_ends ts f t h ends more g k = ends more (longer_value ts (t ∷ more) f g h k).1
 
   -- ---- all fields
 
@@ -86,15 +135,15 @@ module _ {T : Type 0} {c : Cutting T} {g : Grammar T} (s : FieldStyle c g) where
     abbrev pub AnyField : List T → Field T → Type 0
     AnyField = EncodedField s (Allowed s shape)
 
-    pub any_encoding : IsEncoding g (λ _. Unit {0}) AnyField
-    any_encoding = field_encoding (Allowed s shape) (allowed_apart shape laws.apart)
+    pub any_item : IsItem g s.list.tokens AnyField
+    any_item = field_item (Allowed s shape) (allowed_apart shape laws.apart)
 
     -- one encoding has one list of fields
     pub one_list : OneValue (EncodedList s.list.tokens AnyField)
-    one_list = between_one g any_encoding s.list.tokens s.brackets
+    one_list = between_one g s.list.tokens s.brackets any_item
 
     pub no_list_begins : NoneBeginsAnother (EncodedList s.list.tokens AnyField)
-    no_list_begins = between_apart g any_encoding s.list.tokens s.brackets
+    no_list_begins = between_apart g s.list.tokens s.brackets any_item
 
     -- a struct is encoded as a value is
     pub fields_encoding : IsEncoding g shape.legal (EncodedFields s shape)
@@ -104,7 +153,7 @@ module _ {T : Type 0} {c : Cutting T} {g : Grammar T} (s : FieldStyle c g) where
           let same = one_list ts h.0 k.0 h.1 k.1 in
           laws.one k.0 m n (subst (λ (fs : List (Field T)). shape.means fs m) same h.2) k.2;
       none_begins = λ ts more m n h k. no_list_begins ts more h.0 k.0 h.1 k.1;
-      begins = λ ts m h. list_begins g any_encoding s.list.tokens s.brackets ts h.0 h.1;
+      begins = λ ts m h. list_begins g s.list.tokens s.brackets any_item ts h.0 h.1;
     }
 
 -- ---- the shapes

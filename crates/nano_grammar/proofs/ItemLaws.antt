@@ -3,7 +3,7 @@ use Rattle.std.specs.Prelude.{◌≡◌, ◌⊎◌, List, [], ◌∷◌, ◌≢�
 use Rattle.std.specs.List.{AllByRecursion}
 use Rattle.std.proofs.Common.{sym, ◌∙◌, ap, subst, inl, inr, append_assoc, append-nil}
 use Rattle.nano_grammar.specs.Items.{ListPunctuation, StartsOtherwise, EncodedItems, OneValue}
-use Rattle.nano_grammar.specs.Items.{EncodedList, EncodedPair}
+use Rattle.nano_grammar.specs.Items.{EncodedList, EncodedPair, ApartInList}
 use Rattle.nano_grammar.specs.Tokens.{NoneBeginsAnother}
 
 -- ==== items
@@ -20,6 +20,10 @@ EncodedAfter {T} punctuation encodes back vs =
 abbrev pub NeverStartsWith : {T V : Type 0} → T → (List T → V → Type 0) → Type 0
 NeverStartsWith {T} {V} t encodes =
     (ts : List T) (v : V) → encodes ts v → StartsOtherwise t ts
+
+-- no encoding goes on from this one with that token
+abbrev pub EndsAt : {T V : Type 0} → (List T → V → Type 0) → List T → T → Type 0
+EndsAt {T} {V} encodes ts t = (more : List T) (v : V) → encodes (ts ++ t ∷ more) v → ⊥
 
 -- ==== item
 
@@ -69,12 +73,93 @@ module _ {T : Type 0} where
       ] in
       (both, cancel_prefix a x y (e ∙ ap (λ (xs : List T). xs ++ y) (sym both)))
 
+  -- ---- an item, with the comma or the closing bracket after it
+
+  -- where no encoding begins another, none goes on at all
+  pub ends_at : {V : Type 0} (encodes : List T → V → Type 0) → NoneBeginsAnother encodes
+      → (ts : List T) (v : V) → encodes ts v → (t : T) → EndsAt encodes ts t
+  ends_at encodes none_begins ts v h t more w k =
+      let none = none_begins ts (t ∷ more) v w h k in
+      cc none
+
+  pub apart_in_list : {V : Type 0} (punctuation : ListPunctuation T) (encodes : List T → V → Type 0)
+      → NoneBeginsAnother encodes → ApartInList punctuation encodes
+  apart_in_list punctuation encodes none_begins ts more t v w h k =
+      absurd (ends_at encodes none_begins ts v h t more w k)
+
+  module _ {V : Type 0} (punctuation : ListPunctuation T) (encodes : List T → V → Type 0)
+      (in_list : ApartInList punctuation encodes) where
+    -- no item goes on with the comma or the closing bracket
+    divided : (a zs : List T) (z t : T) (v w : V) → encodes a v → encodes (a ++ z ∷ zs) w
+        → (t ≡ punctuation.comma) ⊎ (t ≡ punctuation.closing) → t ≡ z → ⊥
+    divided a zs z t v w h k (inl comma) e = (in_list a zs z v w h k).0 (sym e ∙ comma)
+    divided a zs z t v w h k (inr closing) e = (in_list a zs z v w h k).1 (sym e ∙ closing)
+
+    -- what comes after an item has a first token, which is one of the two
+    after_first : (back : List T) (vs : List V) → EncodedAfter punctuation encodes back vs
+        → (t : T) × (x : List T) × (back ≡ t ∷ x)
+        × ((t ≡ punctuation.comma) ⊎ (t ≡ punctuation.closing))
+    after_first back vs (inl p) = (punctuation.closing, [], p.0, inr refl)
+    after_first back vs (inr p) = (punctuation.comma, p.0, p.1, inl refl)
+
+    -- an item with what comes after it, and another one with a token after it at which it ends: if
+    -- they begin one list of tokens, they are one
+    pub same_item : (a x rest i more : List T) (t : T) (vs : List V) (v w : V) → encodes a v
+        → EncodedAfter punctuation encodes x vs → encodes i w → EndsAt encodes i t
+        → a ++ (x ++ rest) ≡ i ++ t ∷ more → (a ≡ i) × (x ++ rest ≡ t ∷ more)
+    same_item a x rest i more t vs v w h after k ends e =
+        let first = after_first x vs after in
+        let longer : x ++ rest ≡ first.0 ∷ (first.1 ++ rest) = ap (λ (xs : List T). xs ++ rest) first.2 in
+        let both : a ≡ i = elim (append_meets a (x ++ rest) i (t ∷ more) e) [
+          | inl r ↦ sym (shorter r.0 r.1 first.0 (first.1 ++ rest) first.3 longer)
+          | inr r ↦ longer_not r.0 r.1
+        ] in
+        (both, cancel_prefix a (x ++ rest) (t ∷ more) (e ∙ ap (λ (xs : List T). xs ++ t ∷ more) (sym both)))
+      where
+        shorter : (z : List T) → i ≡ a ++ z → (u : T) (us : List T)
+            → (u ≡ punctuation.comma) ⊎ (u ≡ punctuation.closing) → x ++ rest ≡ u ∷ us → i ≡ a
+        shorter [] is u us divides after_is = is ∙ append-nil a
+        shorter (z ∷ zs) is u us divides after_is =
+            let joined = append_assoc a (z ∷ zs) (t ∷ more) in
+            let whole = e ∙ (ap (λ (xs : List T). xs ++ t ∷ more) is ∙ joined) in
+            let left = cancel_prefix a (x ++ rest) (z ∷ (zs ++ t ∷ more)) whole in
+            let both = sym after_is ∙ left in
+            let head : u ≡ z = cc both in
+            absurd (divided a zs z u v w h (subst (λ (xs : List T). encodes xs w) is k) divides head)
+
+        longer_not : (z : List T) → a ≡ i ++ z → a ≡ i
+        longer_not [] is = is ∙ append-nil i
+        longer_not (z ∷ zs) is =
+            let joined = append_assoc i (z ∷ zs) (x ++ rest) in
+            let whole = sym joined ∙ (ap (λ (xs : List T). xs ++ (x ++ rest)) (sym is) ∙ e) in
+            let left = cancel_prefix i (z ∷ (zs ++ (x ++ rest))) (t ∷ more) whole in
+            let head : z ≡ t = cc left in
+            let goes_on = ap (λ (u : T). i ++ u ∷ zs) head in
+            absurd (ends zs v (subst (λ (xs : List T). encodes xs v) (is ∙ goes_on) h))
+
+    -- an item ends at the comma and at the closing bracket
+    pub ends_divided : (i : List T) (v : V) → encodes i v → (t : T)
+        → (t ≡ punctuation.comma) ⊎ (t ≡ punctuation.closing) → EndsAt encodes i t
+    ends_divided i v h t divides more w k = divided i more t t v w h k divides refl
+
+    -- two items, each with what comes after it
+    pub same_items : (a x rest b y : List T) (vs ws : List V) (v w : V) → encodes a v
+        → EncodedAfter punctuation encodes x vs → encodes b w → EncodedAfter punctuation encodes y ws
+        → a ++ (x ++ rest) ≡ b ++ y → (a ≡ b) × (x ++ rest ≡ y)
+    same_items a x rest b y vs ws v w h after k other e =
+        let first = after_first y ws other in
+        let there = ap (λ (xs : List T). b ++ xs) first.2 in
+        let s =
+        same_item a x rest b first.1 first.0 vs v w h after k (ends_divided b w k first.0 first.3)
+        (e ∙ there) in
+        (s.0, s.1 ∙ sym first.2)
+
   -- ---- items between brackets
 
   module _ {V : Type 0} (punctuation : ListPunctuation T)
       (apart : punctuation.closing ≢ punctuation.comma)
       (encodes : List T → V → Type 0) (one : OneValue encodes)
-      (none_begins : NoneBeginsAnother encodes)
+      (in_list : ApartInList punctuation encodes)
       (never_closing : NeverStartsWith punctuation.closing encodes) where
     not_closing : (a x y : List T) (v : V) → encodes a v → a ++ x ≡ punctuation.closing ∷ y → ⊥
     not_closing [] x y v h e = never_closing [] v h
@@ -99,7 +184,8 @@ module _ {T : Type 0} where
     items_meet (v ∷ vs) (w ∷ ws) ts us more h k e =
         let longer = ap (λ (xs : List T). xs ++ more) (sym h.2) in
         let split = sym (append_assoc h.0 h.1 more) ∙ (longer ∙ (e ∙ k.2)) in
-        let s = same_prefix encodes none_begins h.0 (h.1 ++ more) k.0 k.1 v w h.3 k.3 split in
+        let s =
+        same_items punctuation encodes in_list h.0 h.1 more k.0 k.1 vs ws v w h.3 h.4 k.3 k.4 split in
         let item = one k.0 v w (subst (λ (xs : List T). encodes xs v) s.0 h.3) k.3 in
         elim h.4 [
           | inl p ↦

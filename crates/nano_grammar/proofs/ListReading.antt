@@ -1,10 +1,10 @@
 -- Reading a list, whatever the tokens are: what is known at the head of the loop, and at its exits.
 use Rattle.std.proofs.Common.{◌≡◌, ◌≢◌, ℕ, List, [], ◌∷◌, ◌++◌, ◌⊎◌, inl, inr, refl, ap, sym, ◌∙◌}
 use Rattle.std.proofs.Common.{subst, append_assoc}
-use Rattle.nano_grammar.specs.Tokens.{At, Leaves, Spans, NoneBeginsAnother}
+use Rattle.nano_grammar.specs.Tokens.{At, Leaves, Spans}
 use Rattle.nano_grammar.specs.Faults.{AreTokens}
-use Rattle.nano_grammar.specs.Items.{ListPunctuation, EncodedItems, EncodedList}
-use Rattle.nano_grammar.proofs.ItemLaws.{EncodedAfter, NeverStartsWith, same_prefix}
+use Rattle.nano_grammar.specs.Items.{ListPunctuation, EncodedItems, EncodedList, ApartInList}
+use Rattle.nano_grammar.proofs.ItemLaws.{EncodedAfter, NeverStartsWith, EndsAt, same_item, ends_divided}
 use Rattle.nano_grammar.proofs.TokensLaws.{leaves_append}
 use Rattle.nano_grammar.proofs.FaultLaws.{LeadsTo, first_token}
 
@@ -30,7 +30,7 @@ pub record SoFar {T V : Type 0} (cut : List ℕ → T → List ℕ → Type 0) (
 
 module _ {T V : Type 0} (cut : List ℕ → T → List ℕ → Type 0)
     (punctuation : ListPunctuation T) (apart : punctuation.closing ≢ punctuation.comma)
-    (encodes : List T → V → Type 0) (none_begins : NoneBeginsAnother encodes)
+    (encodes : List T → V → Type 0) (in_list : ApartInList punctuation encodes)
     (never_closing : NeverStartsWith punctuation.closing encodes) where
   abbrev ListSoFar : At T → At T → List V → Type 0
   ListSoFar start here out = SoFar cut punctuation encodes start here out
@@ -93,8 +93,9 @@ module _ {T V : Type 0} (cut : List ℕ → T → List ℕ → Type 0)
 
   -- once an item is read, what comes after it is left
   pub item_left : (s m : At T) (prefix i : List T) (v : V) → ItemsLeft prefix s.token
-      → s.token ≢ punctuation.closing → encodes i v → Leaves cut i s m → AfterLeft (prefix ++ i) m.token
-  item_left s m prefix i v h n e l = record {
+      → s.token ≢ punctuation.closing → encodes i v → Leaves cut i s m → EndsAt encodes i m.token
+      → AfterLeft (prefix ++ i) m.token
+  item_left s m prefix i v h n e l ends = record {
     all = λ us left more next vs k is.
         let begins = item_first i s m v e l in
         let tail = m.token ∷ more in
@@ -103,7 +104,9 @@ module _ {T V : Type 0} (cut : List ℕ → T → List ℕ → Type 0)
         let there = joined ∙ ap (λ (xs : List T). prefix ++ xs) starts in
         let r = h.all us left (begins.0 ++ tail) next vs k (is ∙ there) in
         let f = first_left r.0 left (begins.0 ++ tail) s.token next r.1 n r.2 r.3 in
-        let same = same_prefix encodes none_begins f.0 (f.2 ++ next ∷ left) i tail f.1 v f.4 e (f.6 ∙ sym starts) in
+        let same =
+        same_item punctuation encodes in_list f.0 f.2 (next ∷ left) i more m.token f.3 f.1 v f.4 f.5 e ends
+        (f.6 ∙ sym starts) in
         (f.2, f.3, f.5, same.1);
   }
 
@@ -150,7 +153,8 @@ module _ {T V : Type 0} (cut : List ℕ → T → List ℕ → Type 0)
         λ back e. subst (λ (xs : List T). EncodedList punctuation encodes xs (out ++ v ∷ [])) (sym (append_assoc h.prefix i.0 back))
         (h.going n (i.0 ++ back) (v ∷ []) (i.0, back, refl, i.1, inl (e, refl)));
     going = λ other. absurd (other c);
-    still = last_left (h.prefix ++ i.0) m.token (item_left s m h.prefix i.0 v h.still n i.1 i.2) c;
+    still = last_left (h.prefix ++ i.0) m.token (item_left s m h.prefix i.0 v h.still n i.1 i.2
+        (ends_divided punctuation encodes in_list i.0 v i.1 m.token (inr c))) c;
   }
 
   comma_so_far : (start s m k : At T) (out : List V) (v : V) → ListSoFar start s out
@@ -172,7 +176,8 @@ module _ {T V : Type 0} (cut : List ℕ → T → List ℕ → Type 0)
             (subst (λ (ws : List V). EncodedList punctuation encodes (h.prefix ++ (i.0 ++ punctuation.comma ∷ back)) ws) (sym (append_assoc out (v ∷ []) vs))
             (h.going n (i.0 ++ punctuation.comma ∷ back) (v ∷ vs) (i.0, punctuation.comma ∷ back, refl, i.1, inr (back, refl, l))));
         still =
-            comma_left (h.prefix ++ i.0) m.token k.token (item_left s m h.prefix i.0 v h.still n i.1 i.2) (sym c.0);
+            comma_left (h.prefix ++ i.0) m.token k.token (item_left s m h.prefix i.0 v h.still n i.1 i.2
+            (ends_divided punctuation encodes in_list i.0 v i.1 m.token (inl (sym c.0)))) (sym c.0);
       }
 
   pub next_so_far : (start s m k : At T) (out : List V) (v : V) → ListSoFar start s out

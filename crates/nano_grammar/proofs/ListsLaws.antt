@@ -9,20 +9,52 @@ use Rattle.nano_grammar.specs.Tokens.{Cutting, IsValueText, NoneBeginsAnother}
 use Rattle.nano_grammar.specs.Codec.{Codec, Grammar, BeginsValue, IsEncoding, Encoding, AreBrackets}
 use Rattle.nano_grammar.specs.Codec.{Canonical, ListStyle}
 use Rattle.nano_grammar.proofs.ItemLaws.{list_one_value, list_none_begins, each_is_encoded}
-use Rattle.nano_grammar.proofs.ItemLaws.{NeverStartsWith}
+use Rattle.nano_grammar.proofs.ItemLaws.{NeverStartsWith, apart_in_list}
 use Rattle.nano_grammar.specs.Items.{ListPunctuation, EncodedItems, EncodedList, OneValue}
+use Rattle.nano_grammar.specs.Items.{ApartInList}
 use Rattle.nano_grammar.proofs.LayoutsLaws.{laid_out_written, laid_out_same, laid_out_encoded}
 use Rattle.nano_grammar.proofs.EncodingLaws.{begins_otherwise, encoding_of}
 use Rattle.nano_grammar.specs.Lists.{EncodesList, EncodesCount, list_text, list_tokens, AllSound}
+
+-- ---- items
+
+-- how the items of a list are encoded: one encoding encodes one item and begins as a value does, and
+-- another that it begins goes on with neither the comma nor the closing bracket
+pub record IsItem {T : Type 0} (g : Grammar T) (punctuation : ListPunctuation T) {A : Type 0}
+    (encodes : List T → A → Type 0) : Type 0 where
+  pub one_value : OneValue encodes
+  pub in_list : ApartInList punctuation encodes
+  pub begins : (ts : List T) (x : A) → encodes ts x → BeginsValue g ts
+
+-- values are items of any list
+pub as_item : {T : Type 0} {g : Grammar T} {A : Type 0} {P : A → Type 0} {S : List T → A → Type 0}
+    → IsEncoding g P S → (punctuation : ListPunctuation T) → IsItem g punctuation S
+as_item {S = S} s punctuation = record {
+  one_value = s.one_value;
+  in_list = apart_in_list punctuation S s.none_begins;
+  begins = s.begins;
+}
+
+module _ {T : Type 0} (g : Grammar T) {A : Type 0} {S : List T → A → Type 0}
+    (punctuation : ListPunctuation T) (are : AreBrackets g punctuation)
+    (s : IsItem g punctuation S) where
+  -- no item begins with a closing bracket
+  pub no_item_closes : NeverStartsWith punctuation.closing S
+  no_item_closes ts x h = begins_otherwise g punctuation.closing are.closes ts (s.begins ts x h)
+
+  pub between_one : OneValue (EncodedList punctuation S)
+  between_one = list_one_value punctuation are.apart S s.one_value s.in_list no_item_closes
+
+  pub between_apart : NoneBeginsAnother (EncodedList punctuation S)
+  between_apart = list_none_begins punctuation are.apart S s.one_value s.in_list no_item_closes
+
+  pub list_begins : (ts : List T) (xs : List A) → EncodedList punctuation S ts xs → BeginsValue g ts
+  list_begins ts xs h = subst (BeginsValue g) (sym h.1) are.opens
 
 -- ---- the encoding
 
 module _ {T : Type 0} (g : Grammar T) {A : Type 0} {P : A → Type 0} {S : List T → A → Type 0}
     (s : IsEncoding g P S) (punctuation : ListPunctuation T) (are : AreBrackets g punctuation) where
-  -- no item begins with a closing bracket
-  pub no_item_closes : NeverStartsWith punctuation.closing S
-  no_item_closes ts x h = begins_otherwise g punctuation.closing are.closes ts (s.begins ts x h)
-
   pub items_are_legal : (xs : List A) (ts : List T) → EncodedItems punctuation S ts xs
       → AllByRecursion P xs
   items_are_legal [] ts h = tt
@@ -34,14 +66,8 @@ module _ {T : Type 0} (g : Grammar T) {A : Type 0} {P : A → Type 0} {S : List 
     ],
   )
 
-  pub between_one : OneValue (EncodedList punctuation S)
-  between_one = list_one_value punctuation are.apart S s.one_value s.none_begins no_item_closes
-
-  pub between_apart : NoneBeginsAnother (EncodedList punctuation S)
-  between_apart = list_none_begins punctuation are.apart S s.one_value s.none_begins no_item_closes
-
-  pub list_begins : (ts : List T) (xs : List A) → EncodedList punctuation S ts xs → BeginsValue g ts
-  list_begins ts xs h = subst (BeginsValue g) (sym h.1) are.opens
+  its_items : IsItem g punctuation S
+  its_items = as_item s punctuation
 
   pub list_encoding : IsEncoding g (AllOfList P) (EncodesList punctuation S)
   list_encoding = record {
@@ -49,9 +75,9 @@ module _ {T : Type 0} (g : Grammar T) {A : Type 0} {P : A → Type 0} {S : List 
       count = h.count;
       items = items_are_legal xs h.items.0 h.items.2;
     };
-    one_value = λ ts xs ys h k. between_one ts xs ys h.items k.items;
-    none_begins = λ ts more xs ys h k. between_apart ts more xs ys h.items k.items;
-    begins = λ ts xs h. list_begins ts xs h.items;
+    one_value = λ ts xs ys h k. between_one g punctuation are its_items ts xs ys h.items k.items;
+    none_begins = λ ts more xs ys h k. between_apart g punctuation are its_items ts more xs ys h.items k.items;
+    begins = λ ts xs h. list_begins g punctuation are its_items ts xs h.items;
   }
 
   pub count_encoding : (count : ℕ)
@@ -61,9 +87,9 @@ module _ {T : Type 0} (g : Grammar T) {A : Type 0} {P : A → Type 0} {S : List 
       count_is = h.count_is;
       items = items_are_legal xs h.items.0 h.items.2;
     };
-    one_value = λ ts xs ys h k. between_one ts xs ys h.items k.items;
-    none_begins = λ ts more xs ys h k. between_apart ts more xs ys h.items k.items;
-    begins = λ ts xs h. list_begins ts xs h.items;
+    one_value = λ ts xs ys h k. between_one g punctuation are its_items ts xs ys h.items k.items;
+    none_begins = λ ts more xs ys h k. between_apart g punctuation are its_items ts more xs ys h.items k.items;
+    begins = λ ts xs h. list_begins g punctuation are its_items ts xs h.items;
   }
 
 abbrev pub list_of : {T : Type 0} {g : Grammar T} (punctuation : ListPunctuation T)

@@ -5,8 +5,9 @@ use Rattle.nano_grammar.proofs.TokensLaws.{CutLaws, tokens_left}
 use Rattle.nano_grammar.specs.Tokens.{Cutting, At, Leaves, Spans}
 use Rattle.nano_grammar.specs.Faults.{AreTokens, Fault, wrong}
 use Rattle.nano_grammar.specs.Items.{ListPunctuation, EncodedItems, EncodedList}
-use Rattle.nano_grammar.specs.Codec.{Grammar, IsEncoding}
-use Rattle.nano_grammar.proofs.ItemLaws.{same_prefix}
+use Rattle.nano_grammar.specs.Codec.{Grammar}
+use Rattle.nano_grammar.proofs.ItemLaws.{same_prefix, EndsAt}
+use Rattle.nano_grammar.proofs.ListsLaws.{IsItem}
 use Rattle.nano_grammar.proofs.FaultLaws.{LeadsTo}
 use Rattle.nano_grammar.proofs.Containers.{ReadSoFar, read_start, item_shorter, read_next}
 use Rattle.nano_grammar.proofs.Containers.{read_found, read_opening_leads, read_item_leads}
@@ -14,7 +15,7 @@ use Rattle.nano_grammar.proofs.Containers.{read_comma_leads, item_taken}
 use Rattle.nano_grammar.proofs.PartReading.{CommaTaken}
 use Rattle.nano_grammar.specs.Fields.{FieldStyle, Field, Allowed, EncodedField, EncodedFields}
 use Rattle.nano_grammar.specs.Fields.{Struct}
-use Rattle.nano_grammar.proofs.FieldsLaws.{any_encoding, one_list, no_list_begins}
+use Rattle.nano_grammar.proofs.FieldsLaws.{any_item, one_list, no_list_begins}
 
 module _ {T : Type 0} {c : Cutting T} {g : Grammar T} (s : FieldStyle c g) (r : CutLaws c g)
     (struct : Struct T) where
@@ -32,8 +33,8 @@ module _ {T : Type 0} {c : Cutting T} {g : Grammar T} (s : FieldStyle c g) (r : 
   abbrev AStruct : List T → Meaning → Type 0
   AStruct = EncodedFields s struct.shape
 
-  is_encoded : IsEncoding g (λ _. Unit {0}) AnyField
-  is_encoded = any_encoding s struct.shape struct.laws
+  is_item : IsItem g s.list.tokens AnyField
+  is_item = any_item s struct.shape struct.laws
 
   -- these fields are read, and are held
   pub record FieldsSoFar (holds : List (Field T) → Type 0) (start here : At T) : Type 0 where
@@ -44,13 +45,13 @@ module _ {T : Type 0} {c : Cutting T} {g : Grammar T} (s : FieldStyle c g) (r : 
   pub fields_start : (holds : List (Field T) → Type 0) (start here : At T)
       → Leaves c.cut (Punctuation.opening ∷ []) start here → holds [] → FieldsSoFar holds start here
   fields_start holds start here l h =
-      record { fields = []; read = read_start r is_encoded Punctuation s.brackets start here l; held = h }
+      record { fields = []; read = read_start r Punctuation s.brackets is_item start here l; held = h }
 
   -- a field takes at least one token, with the comma after it
   pub field_shorter : (here following next : At T) (f : Field T) → Spans c.cut AnyField here following f
       → CommaTaken c.cut Punctuation following next
       → tokens_left r.is_end next < tokens_left r.is_end here
-  field_shorter = item_shorter r is_encoded Punctuation s.brackets
+  field_shorter = item_shorter r Punctuation s.brackets is_item
 
   pub fields_next : (holds after : List (Field T) → Type 0) (start here following next : At T)
       → FieldsSoFar holds start here → here.token ≢ Punctuation.closing
@@ -61,7 +62,7 @@ module _ {T : Type 0} {c : Cutting T} {g : Grammar T} (s : FieldStyle c g) (r : 
       let fields = so_far.fields in
       record {
         fields = fields ++ f.0 ∷ [];
-        read = read_next r is_encoded Punctuation s.brackets start here following next fields f.0 so_far.read goes_on f.1 taken;
+        read = read_next r Punctuation s.brackets is_item start here following next fields f.0 so_far.read goes_on f.1 taken;
         held = f.2 fields so_far.held;
       }
 
@@ -75,7 +76,7 @@ module _ {T : Type 0} {c : Cutting T} {g : Grammar T} (s : FieldStyle c g) (r : 
       → LeadsTo AStruct (AreTokens (Punctuation.opening ∷ [])) [] pending
   struct_opening_leads pending =
       struct_leads (AreTokens (Punctuation.opening ∷ [])) [] pending
-      (read_opening_leads r is_encoded Punctuation s.brackets pending)
+      (read_opening_leads r Punctuation s.brackets is_item pending)
 
   module _ (holds : List (Field T) → Type 0) (start here : At T)
       (so_far : FieldsSoFar holds start here) where
@@ -87,18 +88,19 @@ module _ {T : Type 0} {c : Cutting T} {g : Grammar T} (s : FieldStyle c g) (r : 
         → LeadsTo AStruct AnyField fields_taken here.token
     struct_field_leads goes_on =
         struct_leads AnyField fields_taken here.token
-        (read_item_leads r is_encoded Punctuation s.brackets start here so_far.fields so_far.read goes_on)
+        (read_item_leads r Punctuation s.brackets is_item start here so_far.fields so_far.read goes_on)
 
     module _ (following : At T) (f : Field T) (h : Spans c.cut AnyField here following f) where
-      pub struct_comma_leads : here.token ≢ Punctuation.closing → following.token ≢ Punctuation.closing
+      pub struct_comma_leads : here.token ≢ Punctuation.closing → EndsAt AnyField h.0 following.token
+          → following.token ≢ Punctuation.closing
           → LeadsTo AStruct (AreTokens (Punctuation.comma ∷ [])) (fields_taken ++ h.0) following.token
-      struct_comma_leads goes_on other =
+      struct_comma_leads goes_on ends other =
           struct_leads (AreTokens (Punctuation.comma ∷ [])) (fields_taken ++ h.0) following.token
-          (read_comma_leads r is_encoded Punctuation s.brackets start here so_far.fields so_far.read following f goes_on h other)
+          (read_comma_leads r Punctuation s.brackets is_item start here so_far.fields so_far.read following f goes_on h ends other)
 
       pub struct_field_taken : Leaves c.cut (fields_taken ++ h.0) start following
       struct_field_taken =
-          item_taken r is_encoded Punctuation s.brackets start here so_far.fields so_far.read following f h
+          item_taken r Punctuation s.brackets is_item start here so_far.fields so_far.read following f h
 
     -- where no name is pending, the closing bracket must be
     pub struct_closing_leads : ((name : List ℕ) → here.token ≢ s.name name)
@@ -120,7 +122,7 @@ module _ {T : Type 0} {c : Cutting T} {g : Grammar T} (s : FieldStyle c g) (r : 
 
     module _ (end : At T) (l : Leaves c.cut (Punctuation.closing ∷ []) here end) where
       all_read : Spans c.cut AllFields start end so_far.fields
-      all_read = read_found r is_encoded Punctuation s.brackets start here end so_far.fields so_far.read l
+      all_read = read_found r Punctuation s.brackets is_item start here end so_far.fields so_far.read l
 
       -- the fields mean what they are said to
       pub struct_found : (m : Meaning)

@@ -11,7 +11,7 @@ use Rattle.nano_grammar.proofs.PairsLaws.{and_then}
 use Rattle.nano_grammar.specs.Codec.{Grammar, BeginsValue, Encoding, AreBrackets, IsEncoding}
 use Rattle.nano_grammar.proofs.TuplesLaws.{last_part, tuple_of}
 use Rattle.nano_grammar.proofs.FaultLaws.{LeadsTo, leads_as, first_token, wrong_in}
-use Rattle.nano_grammar.proofs.ListsLaws.{between_one}
+use Rattle.nano_grammar.proofs.ListsLaws.{between_one, as_item}
 use Rattle.nano_grammar.proofs.PartReading.{pair_found, first_leads, punctuator_leads, second_leads}
 use Rattle.nano_grammar.proofs.PartReading.{after_found, token_leads, after_leads, last_found}
 use Rattle.nano_grammar.proofs.PartReading.{last_leads, last_comma_leads, last_closing_leads}
@@ -270,7 +270,7 @@ module _ {T : Type 0} {c : Cutting T} {g : Grammar T} (r : CutLaws c g) (punctua
           → EncodedList punctuation S us ws → us ≡ ts → length vs ≡ length ws
       same_count ts us vs ws a b is =
           let moved = subst (λ (xs : List T). EncodedList punctuation S xs ws) is b in
-          ap length (between_one g s punctuation are ts vs ws a moved)
+          ap length (between_one g punctuation are (as_item s punctuation) ts vs ws a moved)
 
       -- where an item is missing, one must follow
       pub item_missing : length out < count

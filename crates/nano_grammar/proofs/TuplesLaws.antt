@@ -1,7 +1,7 @@
 -- What is proved of Tuples.
 use Rattle.std.specs.Prelude.{◌≡◌, ◌≢◌, List, [], ◌∷◌, ◌++◌, refl}
 use Rattle.std.proofs.Common.{sym, ◌∙◌, ap, subst, append-nil, inl}
-use Rattle.nano_grammar.proofs.ItemLaws.{items_meet, NeverStartsWith}
+use Rattle.nano_grammar.proofs.ItemLaws.{items_meet, NeverStartsWith, apart_in_list}
 use Rattle.nano_grammar.specs.Items.{ListPunctuation, OneValue, with_closing}
 use Rattle.nano_grammar.specs.Tuples.{EncodedLast, EncodedAfter}
 use Rattle.nano_grammar.specs.BaseCodecs.{part_style, last_canonical}
@@ -11,7 +11,7 @@ use Rattle.nano_grammar.specs.Codec.{Codec, Grammar, BeginsValue, StartsWith, Is
 use Rattle.nano_grammar.specs.BaseCodecs.{codec_as}
 use Rattle.nano_grammar.specs.Codec.{Encoding, AreBrackets, TupleStyle}
 use Rattle.nano_grammar.proofs.LayoutsLaws.{last_part_written, tuple_written}
-use Rattle.nano_grammar.proofs.ListsLaws.{no_item_closes}
+use Rattle.nano_grammar.proofs.ListsLaws.{no_item_closes, as_item}
 use Rattle.nano_grammar.proofs.PairsLaws.{next_codec}
 use Rattle.nano_grammar.proofs.EncodingLaws.{begins_append, not_none, starts_before, starts_after}
 
@@ -26,9 +26,8 @@ module _ {T V : Type 0} (punctuation : ListPunctuation T)
   last_meets : (ts more us : List T) (v w : V) → EncodedLast punctuation encodes ts v
       → EncodedLast punctuation encodes us w → ts ++ more ≡ us → (more ≡ []) × (v ∷ [] ≡ w ∷ [])
   last_meets ts more us v w h k e =
-      items_meet punctuation apart encodes one none_begins never_closing (v ∷ []) (w ∷ []) ts us
-      more h k
-      e
+      items_meet punctuation apart encodes one (apart_in_list punctuation encodes none_begins)
+      never_closing (v ∷ []) (w ∷ []) ts us more h k e
 
   pub last_one_value : OneValue (EncodedLast punctuation encodes)
   last_one_value ts v w h k =
@@ -59,7 +58,7 @@ module _ {T : Type 0} (g : Grammar T) {A : Type 0} {P : A → Type 0} {S : List 
     (s : IsEncoding g P S) (punctuation : ListPunctuation T) (are : AreBrackets g punctuation) where
   pub last_encoding : IsEncoding g P (EncodedLast punctuation S)
   last_encoding =
-      let closes = no_item_closes g s punctuation are in
+      let closes = no_item_closes g punctuation are (as_item s punctuation) in
       record {
         is_legal = λ ts x h. s.is_legal h.0 x h.3;
         one_value = last_one_value punctuation are.apart S s.one_value s.none_begins closes;

@@ -1,6 +1,6 @@
 -- Named fields, over any format's tokens: what they are encoded and written with, the fields
 -- of a text, the last one of a name, and what a shape of fields encodes.
-use Rattle.std.specs.Prelude.{◌≡◌, ℕ, ◌||◌, Bool, true, false, List, [], ◌∷◌, ◌++◌, Option, Some}
+use Rattle.std.specs.Prelude.{◌≡◌, ◌≢◌, ℕ, ◌||◌, Bool, true, false, List, [], ◌∷◌, ◌++◌, Option, Some}
 use Rattle.std.specs.Prelude.{None, bytes_eq, if◌then◌else◌, ◌&&◌, not, codes, ◌⊎◌}
 use Rattle.std.specs.List.{AllByRecursion, list_all}
 use Rattle.nano_value.specs.Meaning.{Meaning, nothing, paired, IsImage, BothOfPair, LegalUnit}
@@ -12,8 +12,8 @@ use Rattle.nano_grammar.specs.Variants.{VariantStyle, Variants, no_variants, uni
 use Rattle.nano_grammar.specs.Choices.{is_named}
 
 -- how a format has named fields: the brackets and the comma, the colon, the token that carries
--- a name, and what may come after an unknown name, of which nothing is a proper prefix of
--- another. Some names can be written, as these characters
+-- a name, and what may come after an unknown name: where that begins something else that may, the
+-- comma and the closing bracket do not go on with it. Some names can be written, as these characters
 pub record FieldStyle {T : Type 0} (c : Cutting T) (g : Grammar T) : Type 1 where
   pub list : ListStyle c
   pub brackets : AreBrackets g list.tokens
@@ -23,7 +23,8 @@ pub record FieldStyle {T : Type 0} (c : Cutting T) (g : Grammar T) : Type 1 wher
   pub injective : (m n : List ℕ) → name m ≡ name n → m ≡ n
   pub begins : (n : List ℕ) → g.may_begin (name n)
   pub Skipped : List T → Type 0
-  pub skipped_apart : (us more : List T) → Skipped us → Skipped (us ++ more) → more ≡ []
+  pub skipped_apart : (us more : List T) (t : T) → Skipped us → Skipped (us ++ t ∷ more)
+      → (t ≢ list.tokens.comma) × (t ≢ list.tokens.closing)
   pub IsName : List ℕ → Type 0
   pub name_text : List ℕ → List ℕ
   pub name_is_written : (n : List ℕ) → IsName n → IsValueText c (name n ∷ []) (name_text n)

@@ -29,6 +29,13 @@ module _ {T V : Type 0} (punctuation : ListPunctuation T) (encodes : List T → 
   EncodedList ts vs =
       (inside : List T) × (ts ≡ punctuation.opening ∷ inside) × EncodedItems inside vs
 
+-- where an encoding of an item begins another, that one goes on with neither the comma nor the closing
+-- bracket
+abbrev pub ApartInList : {T V : Type 0} → ListPunctuation T → (List T → V → Type 0) → Type 0
+ApartInList {T} {V} punctuation encodes =
+    (ts more : List T) (t : T) (v w : V) → encodes ts v → encodes (ts ++ t ∷ more) w
+    → (t ≢ punctuation.comma) × (t ≢ punctuation.closing)
+
 -- a key, a colon and a value
 abbrev pub EncodedPair : {T K V : Type 0} → T → (List T → K → Type 0) → (List T → V → Type 0)
     → List T → K × V → Type 0

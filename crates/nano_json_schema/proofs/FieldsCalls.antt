@@ -12,6 +12,7 @@ use Rattle.nano_grammar.proofs.TokensLaws.{token_shorter}
 use Rattle.nano_grammar.specs.UserOutcomes.{FieldTokens, ReadField, HeldFields}
 use Rattle.nano_grammar.specs.Fields.{Struct}
 use Rattle.nano_grammar.proofs.FieldReading.{field_after, field_after_leads}
+use Rattle.nano_grammar.proofs.FieldsLaws.{allowed_ends, field_ends}
 use Rattle.nano_grammar.proofs.StructReading.{FieldsSoFar, fields_start, fields_next, struct_found}
 use Rattle.nano_grammar.proofs.StructReading.{struct_missing, struct_opening_leads, fields_taken}
 use Rattle.nano_grammar.proofs.StructReading.{struct_field_leads, struct_comma_leads}
@@ -22,7 +23,7 @@ use Rattle.nano_json.proofs.Json.{json_laws}
 use Rattle.nano_json_schema.specs.Reading.{Field, Shape, Allowed, EncodesField, EncodesFieldsWith}
 use Rattle.nano_json_schema.specs.Reading.{name_bytes, TakesSome, IsNamed, FieldLeft, head_left}
 use Rattle.nano_json_schema.specs.Reading.{StandsAfter, GoesOn, ReachedName, TookColon, TookField}
-use Rattle.nano_json_schema.specs.FieldCodecs.{AfterUnknown, fields_with}
+use Rattle.nano_json_schema.specs.FieldCodecs.{AfterUnknown, fields_with, goes_nowhere}
 use Rattle.nano_json_schema.specs.Outcomes.{is_str}
 use Rattle.nano_json_schema.proofs.Calls.{name_goes_on, no_name_pending}
 
@@ -247,11 +248,17 @@ module _ (unknown : AfterUnknown) (struct : Struct Token) where
           → ReadsNone Cut (EncodesFieldsWith unknown struct.shape) start end e
       comma_not {mid = mid} field bad =
           let read = field.decodes h.here h.stands in
+          let shape = struct.shape in
+          let whole =
+          allowed_ends (fields_with unknown) shape struct.laws.apart read.0.name read.0.value mid.at.token
+          (λ _ skipped more. goes_nowhere unknown read.0.value more mid.at.token skipped) read.1.1.1 in
+          let ends =
+          field_ends (fields_with unknown) (Allowed unknown shape) read.1.0 read.0 mid.at.token read.1.1 whole in
           let ts = fields_taken (fields_with unknown) json_laws struct holds start.at h.here h.read in
           let moved = moves_append h.place field.place in
           fails_after (λ w. wrong_in Cut (EncodesFieldsWith unknown struct.shape) (AreTokens (comma ∷ [])) (ts ++ read.1.0)
           (struct_comma_leads (fields_with unknown) json_laws struct holds start.at h.here h.read mid.at read.0 read.1
-          (goes_on name h.here now.at h.stands named) w.0)
+          (goes_on name h.here now.at h.stands named) ends w.0)
           (struct_field_taken (fields_with unknown) json_laws struct holds start.at h.here h.read mid.at read.0 read.1) moved w.1) moved bad
 
     -- no field begins here

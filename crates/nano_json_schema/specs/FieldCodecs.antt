@@ -1,6 +1,6 @@
 -- Named fields in JSON: between braces, with their names as they are between quotes. A
 -- field whose name is not known is passed over, or rejected where the struct is strict.
-use Rattle.std.specs.Prelude.{◌≡◌, ◌++◌, ℕ, true, List, [], Option, ℤ, String, string_bytes}
+use Rattle.std.specs.Prelude.{◌≡◌, ◌++◌, ◌∷◌, ℕ, true, List, [], Option, ℤ, String, string_bytes}
 use Rattle.std.specs.Global.{Global}
 use Rattle.std.specs.Int.{w8, w16, w32, w64}
 use Rattle.nano_value.specs.Meaning.{Meaning}
@@ -43,6 +43,13 @@ passed_over = record { Value = SkippedField; apart = skipped_apart }
 abbrev pub nothing_after : AfterUnknown
 nothing_after = record { Value = λ us. ⊥; apart = λ us more h k. absurd h }
 
+-- so none goes on
+pub goes_nowhere : (unknown : AfterUnknown) (us more : List Token) (t : Token) → unknown.Value us
+    → unknown.Value (us ++ t ∷ more) → ⊥
+goes_nowhere unknown us more t h k =
+    let none = unknown.apart us (t ∷ more) h k in
+    cc none
+
 -- fields with this after a name that is not known
 abbrev pub fields_with : AfterUnknown → FieldStyle json json_grammar
 fields_with unknown = record {
@@ -54,7 +61,7 @@ fields_with unknown = record {
   injective = str_injective;
   begins = λ name. tt;
   Skipped = unknown.Value;
-  skipped_apart = unknown.apart;
+  skipped_apart = λ us more t h k. absurd (goes_nowhere unknown us more t h k);
   IsName = IsPlainName;
   name_text = quoted_name;
   name_is_written = name_is_written;

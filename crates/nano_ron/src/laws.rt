@@ -16,7 +16,8 @@ ghost use Rattle.nano_ron.specs.Written.{MayFollow};
 
 use crate::traits::{BothRon, RonCodec};
 pub use nano_ron_tokens::laws::{
-    a_text_is_cut_in_one_way, gaps_are_skipped, taken_tokens_begin_the_text, the_end_follows_gaps,
+    a_skipped_field_goes_on_with_a_parenthesis, a_text_is_cut_in_one_way, gaps_are_skipped,
+    taken_tokens_begin_the_text, the_end_follows_gaps,
 };
 use nano_ron_tokens::{DeRonErr, DeRonState};
 use nano_value::{ExactEq, Key, Value};

@@ -6,6 +6,7 @@ ghost use Rattle.std.specs.Prelude.{◌≡◌, [], string_bytes};
 ghost use Rattle.nano_ron.specs.Outcomes.{position, Reads, ReadsOrEnds};
 ghost use Rattle.nano_ron.specs.State.{pending};
 ghost use Rattle.nano_ron.specs.Token.{IsIdent};
+ghost use Rattle.nano_ron_schema.specs.FieldCodecs.{nothing_after};
 ghost use Rattle.nano_ron_schema.specs.Reading.{EncodesFields, EncodesNamed};
 ghost use Rattle.nano_ron_schema.specs.Outcomes.{HoldsFields, TakesField, is_ident};
 
@@ -70,7 +71,7 @@ fn read_list<L, F: RonFieldsWithin<L>>(
 ) -> Result<(), DeRonErr>
     requires { F.holds left slots.old [] }
     ensures { HoldsFields (F.codec left).struct.shape
-        (F.holds left slots.new)
+        (F.holds left slots.new) nothing_after
         (position state.old input.old) (position state.new input.new) result }
 {
     state.paren_open(alloc, input)?;
@@ -94,7 +95,7 @@ fn read_any<L, F: RonFieldsWithin<L>>(
     requires { IsIdent (pending state.old) }
     ensures { TakesField (string_bytes state.old.identbuf)
         (F.codec left).struct.shape
-        (F.holds left slots.old) (F.holds left slots.new)
+        (F.holds left slots.old) (F.holds left slots.new) nothing_after
         (position state.old input.old) (position state.new input.new) result }
 {
     if F::read_field(levels, left, slots, alloc, state, input)? {

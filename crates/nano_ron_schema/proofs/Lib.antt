@@ -1,4 +1,5 @@
 pub mod Calls
 pub mod WrittenFields
 pub mod VariantReaders
+pub mod FieldCalls
 pub mod FieldsCalls

@@ -1,13 +1,16 @@
 -- Codecs of structs in RON: named fields between parentheses.
-use Rattle.std.specs.Prelude.{List, ◌≡◌, ℕ, true, Option, chars}
-use Rattle.nano_ron_tokens.specs.Token.{Token, parens, paren_punctuation, ident}
+use Rattle.std.specs.Prelude.{List, ◌∷◌, ◌++◌, ◌≡◌, ◌≢◌, ℕ, true, Option, chars}
+use Rattle.nano_ron_tokens.specs.Token.{Token, parens, paren_punctuation, ident, comma}
+use Rattle.nano_ron_tokens.specs.Token.{paren_close}
+use Rattle.nano_ron_tokens.specs.Skipped.{SkippedField}
+use Rattle.nano_ron_tokens.proofs.BracketCounts.{skipped_in_list}
 pub use Rattle.nano_grammar.proofs.StructCodecLaws.{fields_codec}
 use Rattle.nano_value.specs.Meaning.{Meaning}
 use Rattle.nano_grammar.specs.Codec.{Codec, ListStyle}
 use Rattle.nano_grammar.proofs.AliasesLaws.{alias_field}
 use Rattle.nano_grammar.proofs.BothFieldsLaws.{also_fields}
 use Rattle.nano_grammar.proofs.DefaultsLaws.{default_field}
-use Rattle.nano_grammar.specs.FieldCodec.{AreNames, FieldsCodec}
+use Rattle.nano_grammar.specs.FieldCodec.{AreNames, FieldsCanonical, FieldsCodec}
 use Rattle.nano_grammar.proofs.FieldCodecLaws.{must_field, may_field}
 use Rattle.nano_grammar.proofs.NoFieldsLaws.{no_field}
 use Rattle.nano_grammar.proofs.PairsLaws.{next_codec}
@@ -22,13 +25,22 @@ use Rattle.nano_ron_tokens.proofs.StylesLaws.{lines_written, entry_style, tuple_
 use Rattle.nano_ron_tokens.specs.Names.{are_names}
 use Rattle.nano_ron_tokens.proofs.NamesLaws.{name_is_written, good_names}
 
--- ==== fields in a row
-
--- nothing may come after a name that is not known
-abbrev pub NothingSkipped : List Token → Type 0
-NothingSkipped us = ⊥
-
 -- ==== codecs of structs
+
+-- what may come after a name that is not known: where that begins something else that may, neither
+-- the comma nor the closing parenthesis goes on with it
+pub record AfterUnknown : Type 1 where
+  pub Value : List Token → Type 0
+  pub apart : (us more : List Token) (t : Token) → Value us → Value (us ++ t ∷ more)
+      → (t ≢ comma) × (t ≢ paren_close)
+
+-- nothing: no field has such a name
+abbrev pub nothing_after : AfterUnknown
+nothing_after = record { Value = λ us. ⊥; apart = λ us more t h k. absurd h }
+
+-- a value of any type, which is passed over
+abbrev pub passed_over : AfterUnknown
+passed_over = record { Value = SkippedField; apart = skipped_in_list }
 
 -- each field on a line of its own, with a comma after it
 abbrev pub field_lines : ListStyle ron
@@ -44,8 +56,9 @@ field_lines = record {
 pub ident_injective : (m n : List ℕ) → ident m ≡ ident n → m ≡ n
 ident_injective m n e = cc e
 
-abbrev pub ron_fields : FieldStyle ron ron_grammar
-ron_fields = record {
+-- fields with this after a name that is not known
+abbrev pub fields_with : AfterUnknown → FieldStyle ron ron_grammar
+fields_with unknown = record {
   list = field_lines;
   brackets = paren_brackets;
   pair = entry_style;
@@ -53,12 +66,20 @@ ron_fields = record {
   name = λ name. ident name;
   injective = ident_injective;
   begins = λ name. tt;
-  Skipped = NothingSkipped;
-  skipped_apart = λ us more h k. absurd h;
+  Skipped = unknown.Value;
+  skipped_apart = unknown.apart;
   IsName = IsName;
   name_text = λ name. chars name;
   name_is_written = name_is_written;
 }
+
+-- each name is known
+abbrev pub ron_fields : FieldStyle ron ron_grammar
+ron_fields = fields_with nothing_after
+
+-- fields of an open struct: one whose name is not known is passed over
+abbrev pub open_fields : FieldStyle ron ron_grammar
+open_fields = fields_with passed_over
 
 -- ---- the schema of a user-defined struct
 
@@ -89,10 +110,37 @@ abbrev pub fields_pair : {A B : Type 0} → FieldsCodec ron_fields A → FieldsC
     → FieldsCodec ron_fields (A × B)
 fields_pair = also_fields
 
+-- the same fields of an open struct. What is written is the same, and what the fields of a text mean
+abbrev pub open_canonical : {A : Type 0} → FieldsCanonical ron_fields A
+    → FieldsCanonical open_fields A
+open_canonical f = record {
+  means = f.means;
+  names = f.names;
+  fields = f.fields;
+  same_texts = f.same_texts;
+}
+
+abbrev pub open_codec : {A : Type 0} → FieldsCodec ron_fields A → FieldsCodec open_fields A
+open_codec f = record {
+  canonical = open_canonical f.canonical;
+  struct = f.struct;
+  sound = f.sound;
+  are_named = f.are_named;
+  are_known = f.are_known;
+  others_unknown = f.others_unknown;
+  are_taken = f.are_taken;
+  are_meant = f.are_meant;
+  meant_is_sound = f.meant_is_sound;
+  are_written = λ names. f.are_written (record { each = names.each });
+}
+
 -- words but `true` and `false` can be written: `word_names refl` proves it of names that are
 -- given
 pub word_names : {names : List (List ℕ)} → are_names names ≡ true → AreNames ron_fields names
 word_names {names} h = record { each = good_names names h }
+
+pub open_names : {names : List (List ℕ)} → are_names names ≡ true → AreNames open_fields names
+open_names {names} h = record { each = good_names names h }
 
 -- ==== parts of tuple structs
 

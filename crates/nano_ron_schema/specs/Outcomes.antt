@@ -3,7 +3,8 @@ use Rattle.std.specs.Prelude.{◌≡◌, ℕ, Bool, List, Result, MatchResult, S
 use Rattle.std.specs.Prelude.{false, [], ◌∷◌, ◌++◌}
 use Rattle.std.specs.List.{flat_map}
 use Rattle.nano_value.specs.Meaning.{Meaning}
-use Rattle.nano_grammar.specs.Outcomes.{Position, Took, ReadsNone, ReadsNoneAndEnds}
+use Rattle.nano_grammar.specs.Outcomes.{Position, Moved, Took, ReadsNone, ReadsNoneAndEnds}
+use Rattle.nano_grammar.specs.Tokens.{Leaves}
 use Rattle.nano_ron_tokens.specs.Cut.{Cut}
 use Rattle.nano_ron_tokens.specs.Outcomes.{report, Says}
 use Rattle.nano_ron_tokens.specs.State.{ended, pending, place_of}
@@ -16,8 +17,9 @@ use Rattle.nano_grammar.specs.UserOutcomes.{GivesValues as GivesValuesBy}
 use Rattle.nano_grammar.specs.UserOutcomes.{HoldsFields as HoldsFieldsBy}
 use Rattle.nano_grammar.specs.UserOutcomes.{ReadsChoice as ReadsChoiceBy, ReadsEnum as ReadsEnumBy}
 use Rattle.nano_grammar.specs.UserOutcomes.{Misses, FieldTokens, ReadField}
-use Rattle.nano_ron_schema.specs.Reading.{Field, Shape, Allowed, head, Encodings}
-use Rattle.nano_ron_schema.specs.FieldCodecs.{ron_fields}
+use Rattle.nano_ron_schema.specs.Reading.{Field, Shape, Allowed, head, Encodings, EncodesNamed}
+use Rattle.nano_ron_schema.specs.Reading.{Divided}
+use Rattle.nano_ron_schema.specs.FieldCodecs.{AfterUnknown, fields_with, ron_fields}
 use Rattle.nano_ron_schema.specs.VariantCodecs.{ron_variants}
 use Rattle.nano_grammar.specs.Promises.{LastFieldCounts as Counts, MissingNameHasNoField as Missing}
 use Rattle.nano_grammar.specs.Promises.{OtherNamesAreSeen as Seen}
@@ -58,12 +60,43 @@ module _ (name : List ℕ) (shape : Shape) (before after : List Field → Type 0
   ReadsField same start end result =
       ReadsFieldBy Cut (head name) name shape before after same start end report result
 
-  -- a call reads the field of this name, which is pending and must be known
-  abbrev pub TakesField : {A : Type 0} → Position Token → Position Token → Result A DeRonErr
-      → Type 0
-  TakesField start end result = MatchResult result
-      (λ _. ReadField Cut (head name) name (Allowed shape) before after start end)
-      (λ e. ReadsNone Cut (FieldTokens (head name) name (Allowed shape)) start end (report e))
+  -- the field of this name was read, or was one that may be skipped, and no longer value may
+  -- stand there
+  pub record TookField (unknown : AfterUnknown) (start end : Position Token) : Type 0 where
+    pub read : ReadField Cut (head name) name (Allowed unknown shape) before after start end
+    pub whole : (more : List Token) → Allowed unknown shape name (read.value ++ end.at.token ∷ more)
+        → ⊥
+
+  -- a call reads the field of this name, which is pending, or takes what may come after it where
+  -- the name is not known. An error says that no such field stands here, with what divides a list
+  -- after it
+  abbrev pub TakesField : {A : Type 0} → AfterUnknown → Position Token → Position Token
+      → Result A DeRonErr → Type 0
+  TakesField unknown start end result = MatchResult result
+      (λ _. TookField unknown start end)
+      (λ e. ReadsNone Cut (Divided (FieldTokens (head name) name (Allowed unknown shape))) start end
+      (report e))
+
+-- this name was taken with a colon and what may come after a name that is not known, and no longer
+-- one may
+pub record TookUnknown (name : List ℕ) (unknown : AfterUnknown) (start end : Position Token) : Type 0
+  where
+    pub value : List Token
+    pub allowed : unknown.Value value
+    pub taken : Leaves Cut (head name ++ value) start.at end.at
+    pub whole : (more : List Token) → unknown.Value (value ++ end.at.token ∷ more) → ⊥
+    pub place : Moved start end
+
+-- this name, a colon, and what may come after a name that is not known
+abbrev pub OtherField : List ℕ → AfterUnknown → List Token → Unit {0} → Type 0
+OtherField name unknown = EncodesNamed name (λ us x. unknown.Value us)
+
+-- a call takes them
+abbrev pub TakesUnknown : {A : Type 0} → List ℕ → AfterUnknown → Position Token → Position Token
+    → Result A DeRonErr → Type 0
+TakesUnknown name unknown start end result = MatchResult result
+    (λ _. TookUnknown name unknown start end)
+    (λ e. ReadsNone Cut (Divided (OtherField name unknown)) start end (report e))
 
 -- a call reads the field of the one name, while the other is pending in its place
 abbrev pub ReadsUnder : {A : Type 0} → List ℕ → List ℕ → Shape → (List Field → Type 0)
@@ -79,9 +112,10 @@ module _ (shape : Shape) (holds : List Field → Type 0) where
   GivesValues means s result = GivesValuesBy shape holds report means (place_of s) result
 
   -- a call takes fields between parentheses
-  abbrev pub HoldsFields : {A : Type 0} → Position Token → Position Token → Result A DeRonErr
-      → Type 0
-  HoldsFields start end result = HoldsFieldsBy ron_fields shape holds start end report result
+  abbrev pub HoldsFields : {A : Type 0} → AfterUnknown → Position Token → Position Token
+      → Result A DeRonErr → Type 0
+  HoldsFields unknown start end result =
+      HoldsFieldsBy (fields_with unknown) shape holds start end report result
 
 -- a call makes a value with this meaning, which is encoded; it fails for want of memory alone
 abbrev pub GivesDefault : {A : Type 0} → (List Token → Meaning → Type 0) → (A → Meaning) → Meaning

@@ -1,11 +1,11 @@
 -- What encodes the fields and the variants of user-defined types in RON.
-use Rattle.std.specs.Prelude.{◌≡◌, ℕ, List, [], ◌∷◌}
+use Rattle.std.specs.Prelude.{◌≡◌, ◌⊎◌, ℕ, List, [], ◌∷◌, ◌++◌}
 use Rattle.nano_value.specs.Meaning.{Meaning}
 use Rattle.nano_grammar.specs.Fields.{Field as FieldOf, EncodedField as EncodedFieldOf}
 use Rattle.nano_grammar.specs.Fields.{EncodedNamed as EncodedNamedOf, Allowed as AllowedOf}
 use Rattle.nano_grammar.specs.Fields.{EncodedFields, Shape as ShapeOf}
-use Rattle.nano_ron_tokens.specs.Token.{Token, ident, colon}
-use Rattle.nano_ron_schema.specs.FieldCodecs.{ron_fields}
+use Rattle.nano_ron_tokens.specs.Token.{Token, ident, colon, comma, paren_close}
+use Rattle.nano_ron_schema.specs.FieldCodecs.{AfterUnknown, fields_with, open_fields, ron_fields}
 use Rattle.nano_grammar.specs.Codec.{Encoding as EncodingOf}
 use Rattle.nano_grammar.specs.Choices.{Rest, EncodesRest as EncodesRestOf}
 use Rattle.nano_grammar.specs.Variants.{Closed as ClosedIn, Variants as VariantsOf}
@@ -26,22 +26,36 @@ Shape = ShapeOf Token
 abbrev pub head : List ℕ → List Token
 head name = ident name ∷ (colon ∷ [])
 
--- after a known name what it takes, after any other a skipped field
-abbrev pub Allowed : Shape → List ℕ → List Token → Type 0
-Allowed = AllowedOf ron_fields
+-- after a known name what it takes, after any other what may come there
+abbrev pub Allowed : AfterUnknown → Shape → List ℕ → List Token → Type 0
+Allowed unknown = AllowedOf (fields_with unknown)
 
 -- a name, a colon, and what may come after that name
-abbrev pub EncodesField : Shape → List Token → Field → Type 0
-EncodesField shape = EncodedFieldOf ron_fields (Allowed shape)
+abbrev pub EncodesField : AfterUnknown → Shape → List Token → Field → Type 0
+EncodesField unknown shape = EncodedFieldOf (fields_with unknown) (Allowed unknown shape)
 
 -- this name, a colon, and what encodes the value
 abbrev pub EncodesNamed : {A : Type 0} → List ℕ → (List Token → A → Type 0) → List Token → A
     → Type 0
 EncodesNamed = EncodedNamedOf ron_fields
 
--- named fields between parentheses, and what they mean
+-- these tokens and what divides a list after them: the comma, or the closing parenthesis
+abbrev pub Divided : {A : Type 0} → (List Token → A → Type 0) → List Token → A → Type 0
+Divided S ts x =
+    (us : List Token) × (t : Token) × (ts ≡ us ++ t ∷ []) × S us x
+    × ((t ≡ comma) ⊎ (t ≡ paren_close))
+
+-- named fields between parentheses, each of a known name, and what they mean
 abbrev pub EncodesFields : Shape → List Token → Meaning → Type 0
 EncodesFields shape = EncodedFields ron_fields shape
+
+-- named fields between parentheses, also of other names, and what they mean
+abbrev pub EncodesOpenFields : Shape → List Token → Meaning → Type 0
+EncodesOpenFields shape = EncodedFields open_fields shape
+
+-- the one or the other, by what may come after a name that is not known
+abbrev pub EncodesFieldsWith : AfterUnknown → Shape → List Token → Meaning → Type 0
+EncodesFieldsWith unknown shape = EncodedFields (fields_with unknown) shape
 
 -- ==== variants
 

@@ -4,11 +4,11 @@ ghost use Rattle.std.specs.Prelude.{OnOk, OnErr};
 ghost use Rattle.nano_text.specs.Outcomes.{Appends, Unchanged};
 ghost use Rattle.nano_ron.specs.Outcomes.{position, ReadsOrEnds};
 ghost use Rattle.nano_schema.specs.Views.{SeesAs};
-ghost use Rattle.nano_ron_schema.specs.Reading.{EncodesFields};
+ghost use Rattle.nano_ron_schema.specs.Reading.{EncodesFields, EncodesOpenFields};
 ghost use Rattle.nano_ron_schema.specs.Outcomes.{fields_text};
 
 use crate::fields::{RonFields, RonRefs};
-use crate::read::read_fields;
+use crate::read::{read_fields, read_fields_open};
 use crate::writer::write_fields;
 use nano_ron::{DeRon, DeRonErr, DeRonState, SerRonState};
 use nano_schema::{FieldRefs, StructSchema};
@@ -29,6 +29,26 @@ pub fn read_record_ron<R: StructSchema, F: RonFields<Values = R::Values>>(
         (position state.old input.old) (position state.new input.new) result }
 {
     match read_fields::<F>(alloc, state, input) {
+        Ok(values) => Ok(R::make(values)),
+        Err(error) => Err(error),
+    }
+}
+
+/// Reads a user-defined struct that may have other fields than its own: one whose name is not known
+/// is skipped. The token after the struct is pending then, which may be the end.
+///
+/// An error other than out of memory says that no such struct is encoded there, with one more token
+/// or the end after it. Every error leaves the state at the end of the text.
+pub fn read_record_ron_open<R: StructSchema, F: RonFields<Values = R::Values>>(
+    alloc: Global,
+    state: &mut DeRonState,
+    input: &mut Chars<'_>,
+) -> Result<R, DeRonErr>
+    ensures { ReadsOrEnds (EncodesOpenFields F.codec.struct.shape)
+        (λ value. F.codec.canonical.means (R.view value))
+        (position state.old input.old) (position state.new input.new) result }
+{
+    match read_fields_open::<F>(alloc, state, input) {
         Ok(values) => Ok(R::make(values)),
         Err(error) => Err(error),
     }

@@ -6,8 +6,11 @@ pub mod Cuts
 pub mod AfterGaps
 pub mod PlainCalls
 pub mod Capacity
+pub mod BracketTokens
+pub mod BracketCounts
 pub mod StylesLaws
 pub mod Calling
+pub mod SkippedCalls
 pub mod CutAgainLaws
 pub mod WrittenTextLaws
 pub mod RonLaws

@@ -10,7 +10,8 @@ use Rattle.nano_value.specs.Meaning.{IsText}
 use Rattle.nano_text.specs.String.{Piece, escaped, IsPiece, IsString, piece_text, piece_char}
 use Rattle.nano_grammar.specs.Tokens.{is_textual, AllTextual, IsCutInto}
 use Rattle.nano_grammar.proofs.TokensLaws.{textual_append}
-use Rattle.nano_ron_tokens.specs.Token.{str, Token, u64, i64, end}
+use Rattle.nano_ron_tokens.specs.Token.{str, Token, u64, i64}
+pub use Rattle.nano_ron_tokens.specs.Scan.{is_end}
 use Rattle.nano_ron_tokens.specs.Cut.{quoted, Cut}
 use Rattle.nano_ron_tokens.proofs.RonLaws.{cut_at_once}
 use Rattle.nano_ron_tokens.specs.Written.{MayFollow, written_piece, written_characters}
@@ -102,9 +103,3 @@ text_textual bytes is =
 abbrev pub signed_token : ℤ → Token
 signed_token (pos n) = u64 n
 signed_token (negsuc n) = i64 (negsuc n)
-
--- ==== punctuation
-
-abbrev pub is_end : Token → Bool
-is_end end = true
-is_end _ = false

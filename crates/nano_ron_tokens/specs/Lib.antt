@@ -1,6 +1,7 @@
 pub mod Token
 pub mod Cut
 pub mod State
+pub mod Skipped
 pub mod Outcomes
 pub mod Scan
 pub mod Promises

@@ -1,8 +1,9 @@
 -- Laws of the definitions.
 use Rattle.std.specs.Prelude.{◌≡◌, ◌↔◌, ℕ, List, [], ◌∷◌, ◌++◌}
 use Rattle.nano_grammar.specs.Tokens.{At, BeginsAt, Leaves, IsOneWay}
-use Rattle.nano_ron_tokens.specs.Token.{Token, end}
+use Rattle.nano_ron_tokens.specs.Token.{Token, ident, paren_open, end}
 use Rattle.nano_ron_tokens.specs.Cut.{Cut, IsGap, IsUnended}
+use Rattle.nano_ron_tokens.specs.Skipped.{SkippedField}
 
 -- a text is cut in one way: one token, one rest
 abbrev pub CutsOneWay : Type 0
@@ -25,3 +26,9 @@ abbrev pub TakenTokensBegin : Type 0
 TakenTokensBegin = (ts : List Token) (next : Token) (start : At Token)
     → ((rest : List ℕ) × Leaves Cut ts start (record { token = next; text = rest }))
     ↔ BeginsAt Cut (ts ++ next ∷ []) start
+
+-- a skipped field that begins another is a word, and goes on with an opening parenthesis
+abbrev pub SkippedFieldsGoOn : Type 0
+SkippedFieldsGoOn = (field more : List Token) (next : Token)
+    → SkippedField field → SkippedField (field ++ next ∷ more)
+    → ((name : List ℕ) × (field ≡ ident name ∷ [])) × (next ≡ paren_open)

@@ -17,7 +17,7 @@ use Rattle.nano_ron_tokens.specs.Outcomes.{Outgrows, Moved, position, report, Sa
 use Rattle.nano_ron_tokens.specs.State.{KeepsOtherBuffers, pending}
 use Rattle.nano_ron_tokens.specs.Token.{Token, ident, bool, colon, curly_open, curly_close}
 use Rattle.nano_ron_tokens.specs.Token.{block_open, block_close, comma, paren_open, paren_close}
-use Rattle.nano_ron_tokens.specs.Token.{end, u64, integer_of}
+use Rattle.nano_ron_tokens.specs.Token.{end, str, u64, i64, f64, character, integer_of}
 use Rattle.nano_ron_tokens.specs.declared.error.DeRonErr.{DeRonErr}
 
 -- the token that a word is
@@ -79,6 +79,38 @@ punctuator_of c =
     else if c == 123 then Some curly_open
     else if c == 125 then Some curly_close
     else None
+
+-- ---- tests of a token
+
+abbrev pub is_paren_open : Token → Bool
+is_paren_open paren_open = true
+is_paren_open _ = false
+
+abbrev pub is_scalar : Token → Bool
+is_scalar (ident name) = true
+is_scalar (str bytes) = true
+is_scalar (u64 n) = true
+is_scalar (i64 z) = true
+is_scalar (f64 run) = true
+is_scalar (bool b) = true
+is_scalar (character c) = true
+is_scalar _ = false
+
+abbrev pub is_opening : Token → Bool
+is_opening curly_open = true
+is_opening paren_open = true
+is_opening block_open = true
+is_opening _ = false
+
+abbrev pub is_closing : Token → Bool
+is_closing curly_close = true
+is_closing paren_close = true
+is_closing block_close = true
+is_closing _ = false
+
+abbrev pub is_end : Token → Bool
+is_end end = true
+is_end _ = false
 
 -- ---- what is passed over
 

@@ -1,6 +1,6 @@
 //! Laws of how a text is cut: each function does nothing, and its contract is the law.
 ghost use Rattle.nano_ron_tokens.specs.Promises.{CutsOneWay, EndsAfterGaps, GapsAreSkipped};
-ghost use Rattle.nano_ron_tokens.specs.Promises.{TakenTokensBegin};
+ghost use Rattle.nano_ron_tokens.specs.Promises.{TakenTokensBegin, SkippedFieldsGoOn};
 
 /// A text is cut in one way: it begins with one token at most, and leaves one rest.
 pub fn a_text_is_cut_in_one_way()
@@ -21,4 +21,10 @@ pub fn the_end_follows_gaps()
 /// To take tokens up to another one is the same as to begin with them and that one.
 pub fn taken_tokens_begin_the_text()
     ensures { TakenTokensBegin }
+{}
+
+/// Where a skipped field is a proper beginning of another, it is a word, and the token after it an
+/// opening parenthesis.
+pub fn a_skipped_field_goes_on_with_a_parenthesis()
+    ensures { SkippedFieldsGoOn }
 {}

@@ -11,6 +11,7 @@ mod plain;
 mod punctuation;
 mod rollback;
 mod scan;
+mod skip;
 mod state;
 mod strings;
 mod token;

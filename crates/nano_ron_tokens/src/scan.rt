@@ -31,6 +31,8 @@ pub(crate) enum Rejection {
     Comment,
     /// A character between apostrophes that is none.
     Character,
+    /// The end of the text inside a skipped field.
+    Field,
     /// An allocation failed.
     Memory,
 }

@@ -131,6 +131,7 @@ impl DeRonState {
             Rejection::Character => self.err_token(alloc, "char"),
             Rejection::Number => self.err_parse(alloc, "number"),
             Rejection::String => self.err_parse(alloc, "string"),
+            Rejection::Field => self.err_parse(alloc, "field"),
             Rejection::Memory => self.err_memory(alloc),
         };
         self.fail();

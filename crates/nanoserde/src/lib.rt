@@ -11,6 +11,7 @@ mod convert;
 pub mod defaults;
 pub mod laws;
 mod normal;
+pub mod open;
 pub mod parts;
 pub mod records;
 mod written;

@@ -8,7 +8,7 @@ use crate::faults::{BOUNDS, ITEMS, TYPES};
 use crate::key_faults::{KEYS, PARTS};
 use crate::mistakes::{COMMENTS, FORMS, OTHERS};
 use crate::outcome::{MODULE, outcome, outcome_above};
-use crate::strict_faults::DENIED;
+use crate::strict_faults::{ALLOWED, DENIED};
 use derive_text::{DeriveError, derive, derived_path, module_of};
 use std::alloc::{AllocError, Global};
 use std::process::Abort;
@@ -84,6 +84,11 @@ fn a_case_is_one_of_the_names_here(rt: HostRuntime) {
 #[test]
 fn unknown_names_are_denied_by_structs_of_json(rt: HostRuntime) {
     are_reported(&rt, rt.alloc(), DENIED);
+}
+
+#[test]
+fn unknown_names_are_allowed_by_structs_of_ron(rt: HostRuntime) {
+    are_reported(&rt, rt.alloc(), ALLOWED);
 }
 
 #[test]

@@ -4,7 +4,7 @@ use crate::default_forms::{DEFAULTED, LARGEST, SKIPPED, SKIPPED_IN_ROW};
 use crate::forms::{CITING, EMPTY, GENERIC, LARGE, PARTS, PASSED};
 use crate::generic_forms::{BOUNDED, HELD, PATHS};
 use crate::key_forms::KEYS;
-use crate::named_forms::{ALIASED, BEYOND, CLASHING, LONG, NAMED, STRICT};
+use crate::named_forms::{ALIASED, BEYOND, CLASHING, LONG, NAMED, OPEN, STRICT};
 use crate::outcome::outcome_above;
 use crate::wide_forms::WIDE;
 use std::alloc::{AllocError, Global};
@@ -81,6 +81,11 @@ fn an_alias_stands_around_its_field(rt: HostRuntime) {
 #[test]
 fn a_struct_that_denies_unknown_names_is_strict_in_json(rt: HostRuntime) {
     are_written(&rt, rt.alloc(), STRICT);
+}
+
+#[test]
+fn a_struct_that_allows_unknown_names_is_open_in_ron(rt: HostRuntime) {
+    are_written(&rt, rt.alloc(), OPEN);
 }
 
 #[test]

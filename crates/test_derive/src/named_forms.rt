@@ -201,6 +201,49 @@ struct D;
         nano_json_schema::read_record_json_strict::<Self, Unit>(alloc, state, input)
 "#;
 
+/// A struct that allows unknown names skips them in RON, and is as any in JSON.
+pub(crate) const OPEN: &str = r#"// nanoserde: bin json ron allow_unknown
+struct A {
+    first: u8,
+}
+=>
+ghost use Rattle.nano_ron_schema.specs.Structs.{open_ron_of};
+=>
+    ghost json = { json_of ⟦<A as StructSchema>⟧.view ⟦<AFields as JsonShape>⟧.codec refl };
+=>
+        nano_json_schema::read_record_json::<Self, AFields>(alloc, state, input)
+=>
+    ghost ron = { open_ron_of ⟦<A as StructSchema>⟧.view ⟦<AFields as RonShape>⟧.codec refl };
+=>
+        nano_ron_schema::write_record_ron::<Self, AFields>(self, alloc, d, s)
+=>
+        nano_ron_schema::read_record_ron_open::<Self, AFields>(alloc, state, input)
+----
+// nanoserde: de_ron allow_unknown
+struct B<T> {
+    a: Vec<Option<T>>,
+}
+// nanoserde: ron
+struct C {
+    b: u8,
+}
+=>
+        match nano_ron_schema::read_record_ron_open::<Self, BFields<T>>(alloc, state, input) {
+            Ok(value) => {
+                means_as_ron::<Self>(&value);
+=>
+        nano_ron_schema::read_record_ron::<Self, CFields>(alloc, state, input)
+----
+// nanoserde: json ron, deny_unknown, allow_unknown
+struct D;
+=>
+        nano_json_schema::read_record_json_strict::<Self, Unit>(alloc, state, input)
+=>
+        nano_json_schema::take_record_json_strict::<Self, Unit>(alloc, place, input, text)
+=>
+        nano_ron_schema::read_record_ron_open::<Self, Unit>(alloc, state, input)
+"#;
+
 /// What has the name of something in the file is said by its path.
 pub(crate) const CLASHING: &str = r#"use crate::a::*;
 use std::alloc::Global;

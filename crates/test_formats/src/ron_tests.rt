@@ -106,6 +106,7 @@ fn ron_laws(rt: HostRuntime) {
     laws::gaps_are_skipped();
     laws::the_end_follows_gaps();
     laws::taken_tokens_begin_the_text();
+    laws::a_skipped_field_goes_on_with_a_parenthesis();
     laws::encoded_is_legal::<u8>();
     laws::one_encoding_one_value::<u8>();
     laws::no_encoding_begins_another::<u8>();

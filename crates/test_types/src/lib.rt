@@ -2,13 +2,13 @@
 //! copies.
 //!
 //! `Server`, `Event`, `Signal` and `Query` are described once by a schema, and `derive_files` wrote
-//! each format from it. So are `Site`, `Clock`, `Notice`, `Moved`, `Change` and `Proxy`, which have
-//! attributes, `Tagged`, `Reply` and `Guess`, which have type parameters, `Ranked`, `Wanted`,
-//! `Ranks` and `Best`, whose parameters have bounds, `Point`, `Entry`, `Segment` and `Cells`, whose
-//! parts have no names, `Draft` and `Edit`, some of whose fields are made and not read, `Measures`
-//! and `Sky`, whose names are beyond ASCII, `Marker`, `Empty` and `Count`, of which nothing is read or written, with `Step` and
-//! `Trip`, which hold such, and `UserId`, `HallName`, `Role` and `Seat`, which are keys of the maps
-//! and items of the set of `Hall`.
+//! each format from it. So are `Site`, `Clock`, `Notice`, `Moved`, `Change`, `Proxy` and `Profile`,
+//! which have attributes, `Tagged`, `Reply` and `Guess`, which have type parameters, `Ranked`,
+//! `Wanted`, `Ranks` and `Best`, whose parameters have bounds, `Point`, `Entry`, `Segment` and
+//! `Cells`, whose parts have no names, `Draft` and `Edit`, some of whose fields are made and not
+//! read, `Measures` and `Sky`, whose names are beyond ASCII, `Marker`, `Empty` and `Count`, of
+//! which nothing is read or written, with `Step` and `Trip`, which hold such, and `UserId`,
+//! `HallName`, `Role` and `Seat`, which are keys of the maps and items of the set of `Hall`.
 //! `Limits` and `Tags` are encoded as their one field. `Command` implements bytes and `Message`
 //! implements JSON by hand, without a schema.
 #![tactic(auto)]
@@ -28,6 +28,7 @@ mod message;
 mod moved;
 mod notice;
 mod point;
+mod profile;
 mod proxy;
 mod query;
 mod ranked;
@@ -55,6 +56,7 @@ pub use message::Message;
 pub use moved::{Change, Moved};
 pub use notice::Notice;
 pub use point::Point;
+pub use profile::Profile;
 pub use proxy::Proxy;
 pub use query::Query;
 pub use ranked::{Ranked, Wanted};

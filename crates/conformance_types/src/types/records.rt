@@ -18,8 +18,8 @@ use test_nested_derived_ron::Menu;
 use test_nested_shapes::{Argument, Node, Term, Trail};
 use test_types::{
     Cells, Change, Clock, Command, Count, Draft, Edit, Empty, Entry, Event, Greetings, Hall,
-    HallName, Marker, Measures, Message, Moved, Notice, Point, Proxy, Reply, Role, Seat, Seats,
-    Segment, Server, Signal, Site, Sky, Step, Tagged, Trip, UserId, Visits,
+    HallName, Marker, Measures, Message, Moved, Notice, Point, Profile, Proxy, Reply, Role, Seat,
+    Seats, Segment, Server, Signal, Site, Sky, Step, Tagged, Trip, UserId, Visits,
 };
 
 /// The names of the types of `of_records`, in the order of its arms.
@@ -114,7 +114,15 @@ pub(crate) fn of_examples(
 
 /// The names of the types of `of_changes`, in the order of its arms.
 const CHANGES_NAMES: &[&str] = &[
-    "Marker", "Empty", "Count", "Step", "Trip", "Moved", "Change",
+    "Marker",
+    "Empty",
+    "Count",
+    "Step",
+    "Trip",
+    "Moved",
+    "Change",
+    "Profile",
+    "Vec<Profile>",
 ];
 
 /// A type of `test_types` without fields, or of data that changes, or another type.
@@ -132,6 +140,8 @@ pub(crate) fn of_changes(
         Some(4) => of_type::<Trip>(alloc, format, input),
         Some(5) => of_type::<Moved>(alloc, format, input),
         Some(6) => of_type::<Change>(alloc, format, input),
+        Some(7) => of_type::<Profile>(alloc, format, input),
+        Some(8) => of_list::<Profile>(alloc, format, input),
         _ => of_wide(alloc, format, kind, input),
     }
 }

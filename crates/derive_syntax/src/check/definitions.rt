@@ -74,21 +74,39 @@ fn check_case<'a>(definition: &Definition<'a>) -> Result<(), Fault> {
     }
 }
 
-const NOT_READ: &str = "is for JSON that is read: write `json` or `de_json` beside it";
+const NO_JSON: &str = "is for JSON that is read: write `json` or `de_json` beside it";
 
-const NO_STRUCT: &str = "is for a struct with named fields: a variant with fields skips those of \
+const NO_RON: &str = "is for RON that is read: write `ron` or `de_ron` beside it";
+
+const SKIPS: &str = "is for a struct with named fields: a variant with fields skips those of \
     other names";
 
-/// An error where fields of unknown names are denied that no reader of JSON would skip.
+const REJECTS: &str = "is for a struct with named fields: a variant with fields rejects those of \
+    other names";
+
+/// An error where fields of unknown names are denied that no reader of JSON would skip, or allowed
+/// that no reader of RON would reject.
 fn check_unknown<'a>(definition: &Definition<'a>) -> Result<(), Fault> {
-    let attributes = definition.attributes;
-    let Some(word) = attributes.deny_unknown else {
-        return Ok(());
-    };
-    match &definition.shape {
-        Shape::Fields(_) if attributes.json.reads => Ok(()),
-        Shape::Fields(_) => Err(word.fault(NOT_READ)),
-        _ => Err(word.fault(NO_STRUCT)),
+    let above = definition.attributes;
+    let shape = &definition.shape;
+    check_read(shape, above.deny_unknown, above.json.reads, NO_JSON, SKIPS)?;
+    check_read(shape, above.allow_unknown, above.ron.reads, NO_RON, REJECTS)
+}
+
+/// An error at a word for structs that are read in a format, where it is not read, or where the
+/// type is no struct.
+fn check_read<'a>(
+    shape: &Shape<'a>,
+    word: Option<Token<'a>>,
+    is_read: bool,
+    not_read: &'static str,
+    no_struct: &'static str,
+) -> Result<(), Fault> {
+    match (word, shape) {
+        (None, _) => Ok(()),
+        (Some(_word), Shape::Fields(_)) if is_read => Ok(()),
+        (Some(word), Shape::Fields(_)) => Err(word.fault(not_read)),
+        (Some(word), _) => Err(word.fault(no_struct)),
     }
 }
 

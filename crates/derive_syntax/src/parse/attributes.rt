@@ -1,6 +1,7 @@
-//! Comments `// nanoserde: ..`, and Rust's attributes, which are passed over.
+//! Comments `// nanoserde: ..`.
 
 use crate::parse::cursor::Cursor;
+use crate::parse::rust::rust_attribute;
 use crate::syntax::{Attributes, Directions};
 use crate::token::{Token, TokenKind};
 use derive_source::{Case, Fault};
@@ -38,6 +39,7 @@ const NO_ATTRIBUTES: Attributes = Attributes {
     case: None,
     levels: None,
     deny_unknown: None,
+    allow_unknown: None,
     default: None,
     default_path: None,
     skip: None,
@@ -81,71 +83,6 @@ impl<'a> Attributes<'a> {
         }
     }
 }
-
-/// Passes over the rest of `[..]`, of which the first bracket is taken, and notes what would change
-/// what is written.
-fn rust_attribute<'a>(
-    cursor: &mut Cursor<'a>,
-    attributes: &mut Attributes<'a>,
-) -> Result<(), Fault> {
-    if cursor.is_at("nserde") {
-        return Err(cursor.fault(AS_COMMENT));
-    }
-    if cursor.is_at("serde") {
-        attributes.serde = cursor.peek();
-    }
-    if cursor.is_at("cfg") {
-        attributes.cfg = cursor.peek();
-    }
-    if cursor.is_at("cycle") {
-        attributes.cycle = cursor.peek();
-    }
-    let is_derive = cursor.is_at("derive");
-    let mut depth = 1usize;
-    for _turn in cursor.tokens {
-        if is_derive {
-            attributes.is_serde = check_macro(cursor)? || attributes.is_serde;
-            let found = usize::from(is_key_trait(cursor));
-            attributes.key_traits = attributes.key_traits.saturating_add(found);
-        }
-        if cursor.take("[") {
-            depth = depth.saturating_add(1);
-        } else if cursor.take("]") {
-            depth = depth.saturating_sub(1);
-        } else {
-            let _ = cursor.next();
-        }
-        if depth == 0 {
-            return Ok(());
-        }
-    }
-    Err(cursor.fault("stands where `]` is wanted"))
-}
-
-/// Whether the next token is a macro of serde. It is an error where it is one of nanoserde.
-fn check_macro(cursor: &Cursor<'_>) -> Result<bool, Fault> {
-    for name in ["SerBin", "DeBin", "SerJson", "DeJson", "SerRon", "DeRon"] {
-        if cursor.is_at(name) {
-            return Err(cursor.fault(NO_MACRO));
-        }
-    }
-    Ok(cursor.is_at("Serialize") || cursor.is_at("Deserialize"))
-}
-
-/// Whether the next token is a trait that a key has.
-fn is_key_trait(cursor: &Cursor<'_>) -> bool {
-    match cursor.peek() {
-        Some(token) => KEY_TRAITS.contains(&token.text),
-        None => false,
-    }
-}
-
-pub(crate) const KEY_TRAITS: [&str; 5] = ["PartialEq", "Eq", "PartialOrd", "Ord", "Hash"];
-
-pub(crate) const AS_COMMENT: &str = "is written as a comment: `// nanoserde: ..`";
-
-const NO_MACRO: &str = "is no macro here: a line `// nanoserde: bin json ron` above the type takes \
-    its place, with the formats that it has";
 
 /// Takes the words of a comment, to its end: one at least.
 fn read_words<'a>(
@@ -227,6 +164,7 @@ fn read_type_word<'a>(
         "transparent" => set_above(&mut attributes.transparent, below, word),
         "key" => set_above(&mut attributes.key, below, word),
         "deny_unknown" => set_above(&mut attributes.deny_unknown, below, word),
+        "allow_unknown" => set_above(&mut attributes.allow_unknown, below, word),
         _ => read_codec(attributes, below, word),
     }
 }
@@ -238,8 +176,8 @@ const FIELD: &str = "stands only above a field with a name";
 const FIELD_OR_VARIANT: &str = "stands only above a field with a name or a variant";
 
 const NO_ATTRIBUTE: &str = "is no attribute: those of a type are bin, json, ron, each of them also \
-    with de_ or ser_ before it, key, rename_all, deny_unknown, transparent and levels; those of a \
-    field rename, alias, default and skip";
+    with de_ or ser_ before it, key, rename_all, deny_unknown, allow_unknown, transparent and \
+    levels; those of a field rename, alias, default and skip";
 
 const NO_CASE: &str = "is no case: those of names are lowercase, UPPERCASE, PascalCase, camelCase, \
     snake_case, SCREAMING_SNAKE_CASE, kebab-case and SCREAMING-KEBAB-CASE";

@@ -1,4 +1,3 @@
-use Rattle.std.proofs.Common.{refl}
 use Rattle.std.proofs.lemmas.Result.{err_from_is_err_and}
 use Rattle.nano_bin.proofs.Collecting.{collected_none, collected_put, collected_all}
 use Rattle.nano_bin.proofs.Collecting.{uncounted_rejected, collected_rejected}
@@ -17,15 +16,9 @@ returns-clause-ok g c =
 pub returns-in_err-count-clause-err : goal.returns-in_err-count-clause-err
 returns-in_err-count-clause-err g c =
     let p = err_from_is_err_and c.from_residual.result c.from_residual.ensures.1 in
-    rw (p.1, p.2) (record {
-      rejects = λ _. uncounted_rejected g.C.Collect.whole g.T.BinCodec.bin.encoding.encodes _ c.in_err-count.ensures.err.none;
-      unchanged = refl;
-    })
+    rw (p.1, p.2) (uncounted_rejected g.C.Collect.whole g.T.BinCodec.bin.encoding.encodes c.in_err-count.ensures.err.none)
 
 pub returns-in_err-item-clause-err : goal.returns-in_err-item-clause-err
 returns-in_err-item-clause-err g c =
     let p = err_from_is_err_and c.from_residual-in_err-item.result c.from_residual-in_err-item.ensures.1 in
-    rw (p.1, p.2) (record {
-      rejects = λ h. collected_rejected g.C.Collect.whole g.T.BinCodec.bin.encoding.laws c.in_ok-count.ensures.ok c.loop.invariant c.loop-test.true (c.in_err-item.ensures.err.rejects h);
-      unchanged = refl;
-    })
+    rw (p.1, p.2) (collected_rejected g.C.Collect.whole g.T.BinCodec.bin.encoding.laws c.in_ok-count.ensures.ok c.loop.invariant c.loop-test.true c.in_err-item.ensures.err)

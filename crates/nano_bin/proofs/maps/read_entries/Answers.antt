@@ -1,4 +1,3 @@
-use Rattle.std.proofs.Common.{refl}
 use Rattle.std.proofs.lemmas.Result.{err_from_is_err_and}
 use Rattle.nano_bin_bytes.specs.Containers.{EncodesPair}
 use Rattle.nano_bin_bytes.proofs.TuplesLaws.{pair_encoding}
@@ -23,17 +22,11 @@ pub returns-in_err-count-clause-err : goal.returns-in_err-count-clause-err
 returns-in_err-count-clause-err g c =
     let S = EncodesPair g.K.BinCodec.bin.encoding.encodes g.V.BinCodec.bin.encoding.encodes in
     let p = err_from_is_err_and c.from_residual.result c.from_residual.ensures.1 in
-    rw (p.1, p.2) (record {
-      rejects = λ _. uncounted_rejected g.C.CollectEntries.whole S _ c.in_err-count.ensures.err.none;
-      unchanged = refl;
-    })
+    rw (p.1, p.2) (uncounted_rejected g.C.CollectEntries.whole S c.in_err-count.ensures.err.none)
 
 pub returns-in_err-key-clause-err : goal.returns-in_err-key-clause-err
 returns-in_err-key-clause-err g c =
     let S = g.K.BinCodec.bin.encoding in
     let R = g.V.BinCodec.bin.encoding in
     let p = err_from_is_err_and c.from_residual-in_err-key.result c.from_residual-in_err-key.ensures.1 in
-    rw (p.1, p.2) (record {
-      rejects = λ h. collected_rejected g.C.CollectEntries.whole (pair_encoding S.laws R.laws) c.in_ok-count.ensures.ok c.loop.invariant c.loop-test.true (no_pair S.encodes R.encodes _ (c.in_err-key.ensures.err.rejects h));
-      unchanged = refl;
-    })
+    rw (p.1, p.2) (collected_rejected g.C.CollectEntries.whole (pair_encoding S.laws R.laws) c.in_ok-count.ensures.ok c.loop.invariant c.loop-test.true (no_pair S.encodes R.encodes c.in_err-key.ensures.err))

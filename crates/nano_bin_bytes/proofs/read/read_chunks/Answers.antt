@@ -1,7 +1,9 @@
-use Rattle.std.proofs.Common.{◌≡◌, ℕ, List, ◌<◌, ◌≤◌, ◌/◌, length, take, subst, ap, ◌∙◌, refl}
-use Rattle.std.proofs.Common.{arith, rules}
+use Rattle.std.proofs.Common.{◌≡◌, ℕ, List, ◌<◌, ◌≤◌, ◌/◌, length, take, subst, ap, ◌∙◌}
+use Rattle.std.proofs.Common.{arith, rules, ◌+◌, ◌*◌, drop}
 use Rattle.std.proofs.lemmas.Grind.{common_steps}
 use Rattle.std.specs.Simd.{first_chunks}
+use Rattle.nano_bin_bytes.specs.Reading.{IsTooShort}
+use Rattle.nano_bin_bytes.proofs.ErrorsLaws.{short_reads_none}
 use Rattle.nano_bin_bytes.proofs.Runs.{chunks_read, chunks_rejected, take-first_chunks}
 use Rattle.nano_bin_bytes.proofs.read.read_chunks.Goals as goal
 
@@ -9,11 +11,8 @@ pub returns-then-chunks-count-clause-err : goal.returns-then-chunks-count-clause
 returns-then-chunks-count-clause-err g c =
     let left = c.rest.ensures in
     let fewer = subst (λ n. n < c.args.count) (c.as_chunks.ensures.front_len ∙ ap (λ l. length l / g.row.N) left) c.if-chunks-count.true in
-    record {
-      none = chunks_rejected g.row.N c.args.count _ c.requires fewer;
-      short = first_of (search rules, grind (arith, common_steps));
-      unchanged = refl;
-    }
+    let short : IsTooShort c.args.bytes.now (c.args.offset.now + length (drop c.args.offset.now c.args.bytes.now) / g.row.N * g.row.N) g.row.N c.too_short.result = first_of (search rules, grind (arith, common_steps)) in
+    short_reads_none _ _ _ _ _ (omega arith) _ short (chunks_rejected g.row.N c.args.count _ c.requires fewer)
 
 -- the chunks that are answered
 answered :

@@ -1,10 +1,12 @@
 use Rattle.std.proofs.Common.{◌≡◌, ◌+◌, ◌≤◌, refl, Err, drop, sym, ◌∙◌, subst, ap, arith}
 use Rattle.std.proofs.lemmas.Result.{err_from_is_err_and}
+use Rattle.nano_value.specs.Meaning.{whole}
 use Rattle.nano_value.specs.Sums.{tagged, count_variants}
+use Rattle.nano_bin_bytes.specs.Scalars.{EncodesUnsigned}
 use Rattle.nano_bin_bytes.specs.Reading.{Decodes}
 use Rattle.nano_bin_bytes.specs.Variants.{legal_bodies, EncodesEnum}
-use Rattle.nano_bin.proofs.Readers.{unsigned_reads, unsigned_rejected}
-use Rattle.nano_bin.proofs.Variants.{variant_reads, content_rejected, tag_rejected}
+use Rattle.nano_bin.proofs.Readers.{unsigned_reads, nothing_short}
+use Rattle.nano_bin.proofs.Variants.{variant_reads, content_nothing, tag_rejected}
 use Rattle.nano_bin_schema.proofs.ChoiceReaders.{one_tag, unknown_content}
 use Rattle.nano_bin_schema.proofs.choice.read_choice_bin.Goals as goal
 
@@ -12,17 +14,18 @@ pub returns-in_err-tag-clause-err : goal.returns-in_err-tag-clause-err
 returns-in_err-tag-clause-err g c =
     let p = err_from_is_err_and c.from_residual.result c.from_residual.ensures.1 in
     let vs = g.V.BinChoices.chosen.bodies in
-    rw (p.1, p.2) (record {
-      rejects = λ h. tag_rejected vs c.args.bytes.now c.args.offset.now c.in_err-tag.ensures.err.none;
-      unchanged = refl;
-    })
+    rw (p.1, p.2) (tag_rejected vs c.args.bytes.now c.args.offset.now _ _ c.in_err-tag.ensures.err.none)
 
 pub returns-in_err-values-clause-err : goal.returns-in_err-values-clause-err
 returns-in_err-values-clause-err g c =
     let p = err_from_is_err_and c.from_residual-in_err-values.result c.from_residual-in_err-values.ensures.1 in
     let vs = g.V.BinChoices.chosen.bodies in
+    let tag = c.in_ok-tag.ensures.ok in
+    let none = c.in_err-values.ensures.err in
+    let moved = tag.moved in
     rw (p.1, p.2) (record {
-      rejects = λ h. content_rejected vs c.args.bytes.now c.args.offset.now _ c.in_ok-tag.tag c.in_ok-tag.ensures.ok (c.in_err-values.ensures.err.rejects h);
+      rejects = λ more other fits. content_nothing vs c.args.bytes.now c.args.offset.now _ c.in_ok-tag.tag more tag (none.rejects more other fits);
+      report = none.report (omega (arith, moved));
       unchanged = refl;
     })
 
@@ -49,7 +52,7 @@ pub returns-in_err-tag-clause-own : goal.returns-in_err-tag-clause-own
 returns-in_err-tag-clause-own g c = λ h.
     let start = c.args.offset.now in
     let bytes = c.args.bytes.now in
-    absurd (unsigned_rejected 2 (drop start bytes) c.in_err-tag.ensures.err.none h.tag (record { prefix = h.stands.prefix; rest = drop h.end bytes; whole = h.stands.whole; is_encoded = h.stands.is_encoded }))
+    absurd (nothing_short (EncodesUnsigned 2) c.in_err-tag.ensures.err (whole h.tag) (record { prefix = h.stands.prefix; rest = drop h.end bytes; whole = h.stands.whole; is_encoded = record { part = h.tag; has = h.stands.is_encoded; is = refl } }))
 
 pub returns-in_err-values-clause-own : goal.returns-in_err-values-clause-own
 returns-in_err-values-clause-own g c =

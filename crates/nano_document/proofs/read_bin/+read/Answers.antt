@@ -1,4 +1,4 @@
-use Rattle.std.proofs.Common.{◌≡◌, ◌≢◌, ◌++◌, ◌∷◌, [], ◌-◌, drop, map, string_bytes, ◌∙◌, ap, subst, arith, rules}
+use Rattle.std.proofs.Common.{◌≡◌, ◌≢◌, ◌++◌, ◌∷◌, [], ◌-◌, map, string_bytes, ◌∙◌, ap, subst, arith, rules}
 use Rattle.std.specs.Int.{w64}
 use Rattle.std.proofs.lemmas.Bool.Decides.{nat_tests}
 use Rattle.std.proofs.lemmas.Grind.{common_steps}
@@ -16,7 +16,7 @@ use Rattle.nano_document.specs.Documents.{json_means, entry_means}
 use Rattle.nano_document.specs.BinCodecs.{bin_nested, bin_level, bin_codec, bin_entry}
 use Rattle.nano_document.specs.declared.json.Json as J
 use Rattle.nano_document.proofs.Documents.{means-Null, means-Bool, means-U64, means-Text, means-List, means-Object}
-use Rattle.nano_document.proofs.BinReading.{one_below, document_reads, no_tag, no_content, no_variant, item_rejected, no_count, items_read, entry_within, decimal_means}
+use Rattle.nano_document.proofs.BinReading.{one_below, document_reads, no_tag, no_content, unknown_tag, no_variant, item_rejected, no_count, items_read, entry_within, decimal_means}
 use Rattle.nano_document.proofs.read_bin.+read.Goals as goal
 
 -- ---- read_items
@@ -24,15 +24,15 @@ use Rattle.nano_document.proofs.read_bin.+read.Goals as goal
 pub read_items-returns-in_err-count-clause-err : goal.read_items-returns-in_err-count-clause-err
 read_items-returns-in_err-count-clause-err t c =
     let p = err_from_is_err_and c.from_residual.result c.from_residual.ensures.1 in
-    rw (p.1, p.2) (λ h. no_count bin_codec.encoding c.args.bytes.now c.args.offset.now c.in_err-count.ensures.err.none)
+    rw (p.1, p.2) (no_count bin_codec.encoding c.args.bytes.now c.args.offset.now _ _ c.in_err-count.ensures.err.none)
 
 pub read_items-returns-in_err-item-clause-err : goal.read_items-returns-in_err-item-clause-err
 read_items-returns-in_err-item-clause-err t c =
     let p = err_from_is_err_and c.from_residual-in_err-item.result c.from_residual-in_err-item.ensures.1 in
-    rw (p.1, p.2) (λ h.
+    rw (p.1, p.2) (
     item_rejected (bin_level c.args.levels).encoding bin_codec.encoding (level_within bin_nested c.args.levels) c.args.bytes.now c.args.offset.now
     c.de_bin.new.offset c.loop.offset c.in_ok-count.count c.loop.counter (map json_means c.loop.items.items)
-    c.in_ok-count.ensures.ok c.loop.invariant c.loop-test.true (c.in_err-item.ensures.err h))
+    _ c.in_ok-count.ensures.ok c.loop.invariant c.loop-test.true c.in_err-item.ensures.err)
 
 pub read_items-loop-preserved : goal.read_items-loop-preserved
 read_items-loop-preserved t c =
@@ -54,15 +54,15 @@ read_items-returns-clause-ok t c =
 pub read_entries-returns-in_err-count-clause-err : goal.read_entries-returns-in_err-count-clause-err
 read_entries-returns-in_err-count-clause-err t c =
     let p = err_from_is_err_and c.from_residual.result c.from_residual.ensures.1 in
-    rw (p.1, p.2) (λ h. no_count (bin_entry bin_codec) c.args.bytes.now c.args.offset.now c.in_err-count.ensures.err.none)
+    rw (p.1, p.2) (no_count (bin_entry bin_codec) c.args.bytes.now c.args.offset.now _ _ c.in_err-count.ensures.err.none)
 
 pub read_entries-returns-in_err-entry-clause-err : goal.read_entries-returns-in_err-entry-clause-err
 read_entries-returns-in_err-entry-clause-err t c =
     let p = err_from_is_err_and c.from_residual-in_err-entry.result c.from_residual-in_err-entry.ensures.1 in
-    rw (p.1, p.2) (λ h.
+    rw (p.1, p.2) (
     item_rejected (bin_entry (bin_level c.args.levels)) (bin_entry bin_codec) (entry_within c.args.levels) c.args.bytes.now c.args.offset.now
     c.de_bin.new.offset c.loop.offset c.in_ok-count.count c.loop.counter (map (entry_means json_means) c.loop.entries.items)
-    c.in_ok-count.ensures.ok c.loop.invariant c.loop-test.true (c.in_err-entry.ensures.err h))
+    _ c.in_ok-count.ensures.ok c.loop.invariant c.loop-test.true c.in_err-entry.ensures.err)
 
 pub read_entries-loop-preserved : goal.read_entries-loop-preserved
 read_entries-loop-preserved t c =
@@ -88,19 +88,14 @@ read_entry-returns-in_err-name-clause-err t c =
     let p = err_from_is_err_and c.from_residual.result c.from_residual.ensures.1 in
     let S = string_codec.encoding.encodes in
     let R = bin_codec.encoding.encodes in
-    let left = drop c.args.offset.now c.args.bytes.now in
-    rw (p.1, p.2) (λ h. image_rejected (EncodesPair S R) paired left (pair_rejected S R left (c.in_err-name.ensures.err.rejects h)))
+    rw (p.1, p.2) (image_rejected (EncodesPair S R) paired (pair_rejected S R c.in_err-name.ensures.err.none))
 
 pub read_entry-returns-in_err-value-clause-err : goal.read_entry-returns-in_err-value-clause-err
 read_entry-returns-in_err-value-clause-err t c =
     let p = err_from_is_err_and c.from_residual-in_err-value.result c.from_residual-in_err-value.ensures.1 in
     let S = string_codec.encoding in
     let R = bin_codec.encoding.encodes in
-    let bytes = c.args.bytes.now in
-    let start = c.args.offset.now in
-    rw (p.1, p.2) (λ h.
-    image_rejected (EncodesPair S.encodes R) paired (drop start bytes)
-    (second_rejected S.encodes R S.laws bytes start c.de_bin.new.offset (text (string_bytes c.in_ok-name.name)) c.in_ok-name.ensures.ok (c.in_err-value.ensures.err h)))
+    rw (p.1, p.2) (image_rejected (EncodesPair S.encodes R) paired (second_rejected S.encodes R S.laws c.in_ok-name.ensures.ok c.in_err-value.ensures.err))
 
 pub read_entry-returns-clause-ok : goal.read_entry-returns-clause-ok
 read_entry-returns-clause-ok t c =
@@ -116,7 +111,7 @@ read_entry-returns-clause-ok t c =
 pub read_json-returns-in_err-de_bin-clause-err : goal.read_json-returns-in_err-de_bin-clause-err
 read_json-returns-in_err-de_bin-clause-err t c =
     let p = err_from_is_err_and c.from_residual.result c.from_residual.ensures.1 in
-    rw (p.1, p.2) (λ h. no_tag c.args.bytes.now c.args.offset.now c.in_err-de_bin.ensures.err.none)
+    rw (p.1, p.2) (no_tag c.args.bytes.now c.args.offset.now _ _ c.in_err-de_bin.ensures.err.none)
 
 pub read_json-returns-in-0-clause-ok : goal.read_json-returns-in-0-clause-ok
 read_json-returns-in-0-clause-ok t c =
@@ -127,7 +122,7 @@ pub read_json-returns-in_err-de_bin-in-1-clause-err : goal.read_json-returns-in_
 read_json-returns-in_err-de_bin-in-1-clause-err t c =
     let p = err_from_is_err_and c.from_residual-in_err-de_bin-in-1.result c.from_residual-in_err-de_bin-in-1.ensures.1 in
     let tag = rw c.in-1.is at c.in_ok-de_bin.ensures.ok in
-    rw (p.1, p.2) (λ h. no_content c.args.bytes.now c.args.offset.now c.de_bin.new.offset 1 tag c.in_err-de_bin-in-1.ensures.err.none)
+    rw (p.1, p.2) (no_content c.args.bytes.now c.args.offset.now c.de_bin.new.offset _ 1 _ tag c.in_err-de_bin-in-1.ensures.err.none)
 
 pub read_json-returns-in_ok-de_bin-in-1-clause-ok : goal.read_json-returns-in_ok-de_bin-in-1-clause-ok
 read_json-returns-in_ok-de_bin-in-1-clause-ok t c =
@@ -138,7 +133,7 @@ pub read_json-returns-in_err-de_bin-in-2-clause-err : goal.read_json-returns-in_
 read_json-returns-in_err-de_bin-in-2-clause-err t c =
     let p = err_from_is_err_and c.from_residual-in_err-de_bin-in-2.result c.from_residual-in_err-de_bin-in-2.ensures.1 in
     let tag = rw c.in-2.is at c.in_ok-de_bin.ensures.ok in
-    rw (p.1, p.2) (λ h. no_content c.args.bytes.now c.args.offset.now c.de_bin.new.offset 2 tag c.in_err-de_bin-in-2.ensures.err.none)
+    rw (p.1, p.2) (no_content c.args.bytes.now c.args.offset.now c.de_bin.new.offset _ 2 _ tag c.in_err-de_bin-in-2.ensures.err.none)
 
 pub read_json-returns-in_ok-de_bin-in-2-clause-ok : goal.read_json-returns-in_ok-de_bin-in-2-clause-ok
 read_json-returns-in_ok-de_bin-in-2-clause-ok t c =
@@ -149,7 +144,7 @@ pub read_json-returns-in_err-de_bin-in-3-clause-err : goal.read_json-returns-in_
 read_json-returns-in_err-de_bin-in-3-clause-err t c =
     let p = err_from_is_err_and c.from_residual-in_err-de_bin-in-3.result c.from_residual-in_err-de_bin-in-3.ensures.1 in
     let tag = rw c.in-3.is at c.in_ok-de_bin.ensures.ok in
-    rw (p.1, p.2) (λ h. no_content c.args.bytes.now c.args.offset.now c.de_bin.new.offset 3 tag c.in_err-de_bin-in-3.ensures.err.none)
+    rw (p.1, p.2) (no_content c.args.bytes.now c.args.offset.now c.de_bin.new.offset _ 3 _ tag c.in_err-de_bin-in-3.ensures.err.none)
 
 pub read_json-returns-in_ok-de_bin-in-3-clause-ok : goal.read_json-returns-in_ok-de_bin-in-3-clause-ok
 read_json-returns-in_ok-de_bin-in-3-clause-ok t c =
@@ -161,7 +156,7 @@ pub read_json-returns-in_err-read_decimal-in-4-clause-err : goal.read_json-retur
 read_json-returns-in_err-read_decimal-in-4-clause-err t c =
     let p = err_from_is_err_and c.from_residual-in_err-read_decimal-in-4.result c.from_residual-in_err-read_decimal-in-4.ensures.1 in
     let tag = rw c.in-4.is at c.in_ok-de_bin.ensures.ok in
-    rw (p.1, p.2) (λ h. no_content c.args.bytes.now c.args.offset.now c.de_bin.new.offset 4 tag (c.in_err-read_decimal-in-4.ensures.err h))
+    rw (p.1, p.2) (no_content c.args.bytes.now c.args.offset.now c.de_bin.new.offset _ 4 _ tag c.in_err-read_decimal-in-4.ensures.err)
 
 pub read_json-returns-in_ok-read_decimal-in-4-clause-ok : goal.read_json-returns-in_ok-read_decimal-in-4-clause-ok
 read_json-returns-in_ok-read_decimal-in-4-clause-ok t c =
@@ -173,7 +168,7 @@ pub read_json-returns-in_err-de_bin-in-5-clause-err : goal.read_json-returns-in_
 read_json-returns-in_err-de_bin-in-5-clause-err t c =
     let p = err_from_is_err_and c.from_residual-in_err-de_bin-in-5.result c.from_residual-in_err-de_bin-in-5.ensures.1 in
     let tag = rw c.in-5.is at c.in_ok-de_bin.ensures.ok in
-    rw (p.1, p.2) (λ h. no_content c.args.bytes.now c.args.offset.now c.de_bin.new.offset 5 tag (c.in_err-de_bin-in-5.ensures.err.rejects h))
+    rw (p.1, p.2) (no_content c.args.bytes.now c.args.offset.now c.de_bin.new.offset _ 5 _ tag c.in_err-de_bin-in-5.ensures.err.none)
 
 pub read_json-returns-in_ok-de_bin-in-5-clause-ok : goal.read_json-returns-in_ok-de_bin-in-5-clause-ok
 read_json-returns-in_ok-de_bin-in-5-clause-ok t c =
@@ -184,7 +179,7 @@ pub read_json-returns-in_err-read_items-in-6-clause-err : goal.read_json-returns
 read_json-returns-in_err-read_items-in-6-clause-err t c =
     let p = err_from_is_err_and c.from_residual-in_err-read_items-in-6.result c.from_residual-in_err-read_items-in-6.ensures.1 in
     let tag = rw c.in-6.is at c.in_ok-de_bin.ensures.ok in
-    rw (p.1, p.2) (λ h. no_content c.args.bytes.now c.args.offset.now c.de_bin.new.offset 6 tag (c.in_err-read_items-in-6.ensures.err h))
+    rw (p.1, p.2) (no_content c.args.bytes.now c.args.offset.now c.de_bin.new.offset _ 6 _ tag c.in_err-read_items-in-6.ensures.err)
 
 pub read_json-returns-in_ok-read_items-in-6-clause-ok : goal.read_json-returns-in_ok-read_items-in-6-clause-ok
 read_json-returns-in_ok-read_items-in-6-clause-ok t c =
@@ -195,7 +190,7 @@ pub read_json-returns-in_err-read_entries-in-7-clause-err : goal.read_json-retur
 read_json-returns-in_err-read_entries-in-7-clause-err t c =
     let p = err_from_is_err_and c.from_residual-in_err-read_entries-in-7.result c.from_residual-in_err-read_entries-in-7.ensures.1 in
     let tag = rw c.in-7.is at c.in_ok-de_bin.ensures.ok in
-    rw (p.1, p.2) (λ h. no_content c.args.bytes.now c.args.offset.now c.de_bin.new.offset 7 tag (c.in_err-read_entries-in-7.ensures.err h))
+    rw (p.1, p.2) (no_content c.args.bytes.now c.args.offset.now c.de_bin.new.offset _ 7 _ tag c.in_err-read_entries-in-7.ensures.err)
 
 pub read_json-returns-in_ok-read_entries-in-7-clause-ok : goal.read_json-returns-in_ok-read_entries-in-7-clause-ok
 read_json-returns-in_ok-read_entries-in-7-clause-ok t c =
@@ -213,4 +208,4 @@ read_json-returns-in_default-clause-err t c =
     let t5 : tag ≢ 5 = λ e. first_of (omega (arith, e), cc e, grind (arith, nat_tests, e)) in
     let t6 : tag ≢ 6 = λ e. first_of (omega (arith, e), cc e, grind (arith, nat_tests, e)) in
     let t7 : tag ≢ 7 = λ e. first_of (omega (arith, e), cc e, grind (arith, nat_tests, e)) in
-    λ h. no_content c.args.bytes.now c.args.offset.now c.de_bin.new.offset tag c.in_ok-de_bin.ensures.ok (λ m f. no_variant tag t0 t1 t2 t3 t4 t5 t6 t7 f.prefix m f.is_encoded)
+    unknown_tag c.args.bytes.now c.args.offset.now c.de_bin.new.offset tag _ c.in_ok-de_bin.ensures.ok (no_variant tag t0 t1 t2 t3 t4 t5 t6 t7) c.no_document.ensures

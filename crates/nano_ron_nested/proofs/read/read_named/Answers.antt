@@ -1,7 +1,7 @@
 use Rattle.std.proofs.Common.{string_bytes}
 use Rattle.std.proofs.lemmas.Result.{MatchResult-weaker}
 use Rattle.nano_grammar.proofs.TokenCalls.{passed_on}
-use Rattle.nano_ron_schema.proofs.FieldsCalls.{named_read, colon_not, value_not}
+use Rattle.nano_ron_schema.proofs.FieldCalls.{named_read, colon_not, value_not}
 use Rattle.nano_ron_schema.proofs.Calls.{pending_name}
 use Rattle.nano_ron_nested.proofs.read.read_named.Goals as goal
 

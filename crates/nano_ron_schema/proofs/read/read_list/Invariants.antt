@@ -7,7 +7,7 @@ use Rattle.nano_ron_schema.proofs.read.read_list.Given as goal
 
 abbrev pub invariant-fields : goal.invariant-fields
 invariant-fields g l =
-    SoFar g.F.RonFields.codec.struct (g.F.RonFields.holds l.slots) (position l.fn.state l.fn.input) (position l.state l.input)
+    SoFar g.U.Unknown.after g.F.RonFields.codec.struct (g.F.RonFields.holds l.slots) (position l.fn.state l.fn.input) (position l.state l.input)
 
 abbrev pub decreases-fields : goal.decreases-fields
 decreases-fields g l = tokens_left ron_laws.is_end (at l.state l.input)

@@ -7,4 +7,4 @@ use Rattle.nano_bin.proofs.lists.ArrayDeBin.de_bin.Goals as goal
 pub returns-in_err-items-clause-err : goal.returns-in_err-items-clause-err
 returns-in_err-items-clause-err g c =
     let p = err_from_is_err_and c.from_residual.result c.from_residual.ensures.1 in
-    rw (p.1, p.2) (record { rejects = λ h. image_rejected (EncodesCount g.row.N g.T.BinCodec.bin.encoding.encodes) listed _ (c.in_err-items.ensures.err.rejects h); unchanged = c.in_err-items.ensures.err.unchanged })
+    rw (p.1, p.2) (image_rejected (EncodesCount g.row.N g.T.BinCodec.bin.encoding.encodes) listed c.in_err-items.ensures.err)

@@ -1,4 +1,3 @@
-use Rattle.std.proofs.Common.{refl}
 use Rattle.std.proofs.lemmas.Result.{err_from_is_err_and}
 use Rattle.nano_value.specs.Meaning.{listed}
 use Rattle.nano_bin_bytes.specs.Containers.{EncodesList}
@@ -13,10 +12,10 @@ pub returns-in_err-count-clause-err : goal.returns-in_err-count-clause-err
 returns-in_err-count-clause-err g c =
     let S = g.T.BinCodec.bin.encoding.encodes in
     let p = err_from_is_err_and c.from_residual.result c.from_residual.ensures.1 in
-    rw (p.1, p.2) (record { rejects = λ _. image_rejected (EncodesList S) listed _ (list_rejected S _ c.in_err-count.ensures.err.none); unchanged = refl })
+    rw (p.1, p.2) (image_rejected (EncodesList S) listed (list_rejected S c.in_err-count.ensures.err.none))
 
 pub returns-in_err-items-clause-err : goal.returns-in_err-items-clause-err
 returns-in_err-items-clause-err g c =
     let S = g.T.BinCodec.bin.encoding.encodes in
     let p = err_from_is_err_and c.from_residual-in_err-items.result c.from_residual-in_err-items.ensures.1 in
-    rw (p.1, p.2) (record { rejects = λ h. image_rejected (EncodesList S) listed _ (list_items_rejected S _ _ _ _ c.in_ok-count.ensures.ok (c.in_err-items.ensures.err.rejects h)); unchanged = refl })
+    rw (p.1, p.2) (image_rejected (EncodesList S) listed (list_items_rejected S c.in_ok-count.ensures.ok c.in_err-items.ensures.err))

@@ -1,4 +1,3 @@
-use Rattle.std.proofs.Common.{refl}
 use Rattle.std.proofs.lemmas.Result.{err_from_is_err_and}
 use Rattle.nano_value.specs.Meaning.{optional}
 use Rattle.nano_bin_bytes.specs.Containers.{EncodesOption}
@@ -15,14 +14,14 @@ pub returns-in_err-tag-clause-err : goal.returns-in_err-tag-clause-err
 returns-in_err-tag-clause-err g c =
     let S = g.T.BinCodec.bin.encoding.encodes in
     let p = err_from_is_err_and c.from_residual.result c.from_residual.ensures.1 in
-    rw (p.1, p.2) (record { rejects = λ _. image_rejected (EncodesOption S) optional _ (option_rejected S _ (unsigned_rejected 1 _ c.in_err-tag.ensures.err.none)); unchanged = refl })
+    rw (p.1, p.2) (image_rejected (EncodesOption S) optional (option_rejected S (unsigned_rejected 1 c.in_err-tag.ensures.err.none)))
 
 pub returns-in_err-value-clause-err : goal.returns-in_err-value-clause-err
 returns-in_err-value-clause-err g c =
     let S = g.T.BinCodec.bin.encoding.encodes in
     let tag = rw c.if-tag-ne1.false at (unsigned_reads 1 _ _ _ _ c.in_ok-tag.ensures.ok) in
     let p = err_from_is_err_and c.from_residual-in_err-value.result c.from_residual-in_err-value.ensures.1 in
-    rw (p.1, p.2) (record { rejects = λ h. image_rejected (EncodesOption S) optional _ (some_rejected S _ _ _ tag (c.in_err-value.ensures.err.rejects h)); unchanged = refl })
+    rw (p.1, p.2) (image_rejected (EncodesOption S) optional (some_rejected S tag c.in_err-value.ensures.err))
 
 pub returns-then-tag-ne1-clause-ok : goal.returns-then-tag-ne1-clause-ok
 returns-then-tag-ne1-clause-ok g c =

@@ -1,4 +1,4 @@
-use Rattle.std.proofs.Common.{arith, rules, refl}
+use Rattle.std.proofs.Common.{arith, rules}
 use Rattle.std.proofs.lemmas.Grind.{common_steps}
 use Rattle.std.proofs.lemmas.Result.{err_from_is_err_and}
 use Rattle.nano_value.specs.Meaning.{text}
@@ -15,9 +15,8 @@ returns-in_err-count-clause-err c =
     let p = err_from_is_err_and c.from_residual.result c.from_residual.ensures.1 in
     let r = c.in_err-count.ensures.err in
     rw (p.1, p.2) (record {
-      rejects = λ _. image_rejected EncodesText text _ (text_rejected _ r.none);
+      none = image_rejected EncodesText text (text_rejected r.none);
       fault = first_of (search rules, grind (arith, common_steps));
-      unchanged = refl;
     })
 
 pub returns-in_err-text-clause-err : goal.returns-in_err-text-clause-err
@@ -25,7 +24,6 @@ returns-in_err-text-clause-err c =
     let p = err_from_is_err_and c.from_residual-in_err-text.result c.from_residual-in_err-text.ensures.1 in
     let r = c.in_err-text.ensures.err in
     rw (p.1, p.2) (record {
-      rejects = λ h. image_rejected EncodesText text _ (text_bytes_rejected _ _ _ _ c.in_ok-count.ensures.ok (r.rejects h));
+      none = image_rejected EncodesText text (text_bytes_rejected c.in_ok-count.ensures.ok r.none);
       fault = first_of (search rules, grind (arith, common_steps));
-      unchanged = refl;
     })

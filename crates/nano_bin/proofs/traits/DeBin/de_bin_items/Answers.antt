@@ -1,4 +1,4 @@
-use Rattle.std.proofs.Common.{◌≡◌, ◌++◌, ◌∷◌, [], refl, map, arith, ap, subst, ◌∙◌}
+use Rattle.std.proofs.Common.{◌≡◌, ◌++◌, ◌∷◌, [], map, arith, ap, subst, ◌∙◌}
 use Rattle.std.proofs.lemmas.Grind.{common_steps}
 use Rattle.std.proofs.lemmas.List.{map-append}
 use Rattle.std.proofs.lemmas.Result.{err_from_is_err_and}
@@ -18,7 +18,7 @@ pub returns-in_err-item-clause-err : goal.returns-in_err-item-clause-err
 returns-in_err-item-clause-err g c =
     let S = g.Self.BinCodec.bin.encoding in
     let p = err_from_is_err_and c.from_residual.result c.from_residual.ensures.1 in
-    rw (p.1, p.2) (record { rejects = λ h. count_rejected S.encodes S.laws _ _ _ _ _ _ c.loop.invariant c.loop-test.true (c.in_err-item.ensures.err.rejects h); unchanged = refl })
+    rw (p.1, p.2) (count_rejected S.encodes S.laws c.loop.invariant c.loop-test.true c.in_err-item.ensures.err)
 
 pub returns-clause-ok : goal.returns-clause-ok
 returns-clause-ok g c =

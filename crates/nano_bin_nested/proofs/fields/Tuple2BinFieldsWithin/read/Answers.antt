@@ -1,4 +1,3 @@
-use Rattle.std.proofs.Common.{refl}
 use Rattle.std.proofs.lemmas.Result.{err_from_is_err_and}
 use Rattle.nano_value.specs.Meaning.{paired}
 use Rattle.nano_bin_bytes.specs.Containers.{EncodesPair}
@@ -17,16 +16,10 @@ returns-in_err-first-clause-err g c =
     let S = g.A.BinFieldsWithin.codec.encoding in
     let R = g.B.BinFieldsWithin.codec.encoding in
     let p = err_from_is_err_and c.from_residual.result c.from_residual.ensures.1 in
-    rw (p.1, p.2) (record {
-      rejects = λ h. image_rejected (EncodesPair S.encodes R.encodes) paired _ (pair_rejected S.encodes R.encodes _ (c.in_err-first.ensures.err.rejects h));
-      unchanged = refl;
-    })
+    rw (p.1, p.2) (image_rejected (EncodesPair S.encodes R.encodes) paired (pair_rejected S.encodes R.encodes c.in_err-first.ensures.err))
 
 pub returns-in-Err-clause-err : goal.returns-in-Err-clause-err
 returns-in-Err-clause-err g c =
     let S = g.A.BinFieldsWithin.codec.encoding in
     let R = g.B.BinFieldsWithin.codec.encoding in
-    record {
-      rejects = λ h. image_rejected (EncodesPair S.encodes R.encodes) paired _ (second_rejected S.encodes R.encodes S.laws _ _ _ _ c.in_ok-first.ensures.ok (c.in-Err.ensures.err.rejects h));
-      unchanged = refl;
-    }
+    image_rejected (EncodesPair S.encodes R.encodes) paired (second_rejected S.encodes R.encodes S.laws c.in_ok-first.ensures.ok c.in-Err.ensures.err)

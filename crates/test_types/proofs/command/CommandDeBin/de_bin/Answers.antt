@@ -5,6 +5,7 @@ use Rattle.nano_value.specs.Meaning.{Meaning}
 use Rattle.nano_bin.specs.Variants.{encoding_at}
 use Rattle.nano_bin.proofs.Readers.{unit_reads}
 use Rattle.nano_bin.proofs.Variants.{variant_reads, content_rejected, tag_rejected}
+use Rattle.nano_bin.proofs.Variants.{unknown_rejected}
 use Rattle.test_types.specs.CommandCodecs.{variants}
 use Rattle.test_types.proofs.command.CommandDeBin.de_bin.Goals as goal
 use Rattle.test_types.proofs.command.CommandDeBin.de_bin.Goals.{in-0, in-1+in_ok-steps-in-1}
@@ -13,30 +14,19 @@ use Rattle.test_types.proofs.command.CommandDeBin.de_bin.Goals.{in-2+in_ok-time-
 pub returns-in_err-de_bin-clause-err : goal.returns-in_err-de_bin-clause-err
 returns-in_err-de_bin-clause-err c =
     let p = err_from_is_err_and c.from_residual.result c.from_residual.ensures.1 in
-    rw (p.1, p.2) (record {
-      rejects = λ h. tag_rejected variants c.args.bytes.now c.args.offset.now c.in_err-de_bin.ensures.err.none;
-      unchanged = refl;
-    })
+    rw (p.1, p.2) (tag_rejected variants c.args.bytes.now c.args.offset.now _ _ c.in_err-de_bin.ensures.err.none)
 
 pub returns-in_err-steps-in-1-clause-err : goal.returns-in_err-steps-in-1-clause-err
 returns-in_err-steps-in-1-clause-err c =
     let p = err_from_is_err_and c.from_residual-in_err-steps-in-1.result c.from_residual-in_err-steps-in-1.ensures.1 in
     let tag = rw c.in-1.is at c.in_ok-de_bin.ensures.ok in
-    rw (p.1, p.2) (record {
-      rejects = λ h. content_rejected variants c.args.bytes.now c.args.offset.now c.de_bin.new.offset 1 tag
-          (c.in_err-steps-in-1.ensures.err.rejects h);
-      unchanged = refl;
-    })
+    rw (p.1, p.2) (content_rejected variants c.args.bytes.now c.args.offset.now c.de_bin.new.offset _ 1 _ tag c.in_err-steps-in-1.ensures.err)
 
 pub returns-in_err-time-in-2-clause-err : goal.returns-in_err-time-in-2-clause-err
 returns-in_err-time-in-2-clause-err c =
     let p = err_from_is_err_and c.from_residual-in_err-time-in-2.result c.from_residual-in_err-time-in-2.ensures.1 in
     let tag = rw c.in-2.is at c.in_ok-de_bin.ensures.ok in
-    rw (p.1, p.2) (record {
-      rejects = λ h. content_rejected variants c.args.bytes.now c.args.offset.now c.de_bin.new.offset 2 tag
-          c.in_err-time-in-2.ensures.err.none;
-      unchanged = refl;
-    })
+    rw (p.1, p.2) (content_rejected variants c.args.bytes.now c.args.offset.now c.de_bin.new.offset _ 2 _ tag c.in_err-time-in-2.ensures.err.none)
 
 -- no other tag has content
 no_other : (tag : ℕ) → tag ≢ 0 → tag ≢ 1 → tag ≢ 2 → (bytes : List ℕ) (m : Meaning)
@@ -52,11 +42,7 @@ returns-in_default-clause-err c =
     let t0 : tag ≢ 0 = λ e. first_of (omega (arith, e), cc e, grind (arith, nat_tests, e)) in
     let t1 : tag ≢ 1 = λ e. first_of (omega (arith, e), cc e, grind (arith, nat_tests, e)) in
     let t2 : tag ≢ 2 = λ e. first_of (omega (arith, e), cc e, grind (arith, nat_tests, e)) in
-    record {
-      rejects = λ h. content_rejected variants c.args.bytes.now c.args.offset.now c.de_bin.new.offset tag
-          c.in_ok-de_bin.ensures.ok (λ m f. no_other tag t0 t1 t2 f.prefix m f.is_encoded);
-      unchanged = refl;
-    }
+    unknown_rejected variants c.args.bytes.now c.args.offset.now c.de_bin.new.offset tag _ c.in_ok-de_bin.ensures.ok (no_other tag t0 t1 t2) refl
 
 pub returns-clause-ok : goal.returns-clause-ok
 returns-clause-ok c =

@@ -1,0 +1,15 @@
+use Rattle.nano_ron_tokens.specs.State.{at}
+use Rattle.nano_ron_tokens.specs.Outcomes.{Moved}
+use Rattle.nano_ron_tokens.proofs.BracketCounts.{Counting, Capacity}
+use Rattle.nano_ron_tokens.proofs.Capacity.{left}
+use Rattle.nano_ron_tokens.proofs.state.DeRonState.skip_brackets.Given as goal
+
+abbrev pub invariant-tokens : goal.invariant-tokens
+invariant-tokens l = record {
+  counting : Counting (at l.fn.self l.fn.i) (at l.self l.i) l.depth;
+  place : Moved l.fn.self l.fn.i l.self l.i;
+  capacity : Capacity (at l.self l.i) l.depth;
+}
+
+abbrev pub decreases-tokens : goal.decreases-tokens
+decreases-tokens l = left (at l.self l.i)
