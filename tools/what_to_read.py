@@ -28,6 +28,7 @@ HEADLINES = {
     "JSON": (["nano_json/src/traits.rt"], "nano_json", 900, 30),
     "RON": (["nano_ron/src/traits.rt"], "nano_ron", 980, 30),
     "TOML": (["nano_toml/src/parser.rt"], None, 500, 15),
+    "where bytes go wrong": (["nano_bin/src/traits.rt"], None, None, None),
     "where JSON and RON go wrong": (["nano_json/src/traits.rt"], None, None, None),
     "the place of an error of TOML": (["nano_toml/src/parser.rt"], None, None, None),
     "the program": (["nano_show_answers/src/answers.rt"], None, None, None),
@@ -35,6 +36,9 @@ HEADLINES = {
 # What is a headline of its own, by the definition: a clause cites it, or the outcome of a call holds it.
 APART = {
     "IsErrorAt": "the place of an error of TOML",
+    "IsReport": "where bytes go wrong",
+    "RejectsWithMore": "where bytes go wrong",
+    "RejectsWholeWithMore": "where bytes go wrong",
     "GoesWrong": "where JSON and RON go wrong",
     "IsNoText": "where JSON and RON go wrong",
     "TextGoesOn": "where JSON and RON go wrong",
