@@ -16,7 +16,9 @@ ghost use Rattle.nano_json_tokens.specs.Scan.{punctuator_of};
 ghost use Rattle.nano_json_tokens.specs.Token.{Token, str, colon, null};
 
 use crate::words::is_word;
-use nano_text::{Place, plain_string_before, read_string, take_negative, take_unsigned};
+use nano_text::{
+    Place, plain_string_before, read_string, take_negative, take_short, take_unsigned,
+};
 use std::str::Chars;
 
 /// Takes this character, if it is the current one.
@@ -177,7 +179,12 @@ pub fn take_plain_unsigned(place: &mut Place, input: &mut Chars<'_>, max: u64) -
         place.old input.old place.new input.new result }
 {
     place.skip_space(input);
-    let number = take_unsigned(place, input)?;
+    // Where at most three digits are wanted, how many stand there is not asked by a branch.
+    let number = if max < 1000 {
+        take_short(place, input)?
+    } else {
+        take_unsigned(place, input)?
+    };
     if number > max {
         return None;
     }

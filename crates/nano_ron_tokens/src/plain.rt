@@ -13,7 +13,7 @@ ghost use Rattle.nano_ron_tokens.specs.Scan.{AnUnsigned, AnInteger, IsInteger};
 ghost use Rattle.nano_ron_tokens.specs.Scan.{punctuator_of};
 ghost use Rattle.nano_ron_tokens.specs.Token.{Token, str};
 
-use nano_text::{Place, read_string, take_negative, take_unsigned};
+use nano_text::{Place, read_string, take_negative, take_short, take_unsigned};
 use std::str::Chars;
 
 /// Takes this punctuator, if it is the current character, and answers whether it did.
@@ -53,7 +53,12 @@ pub fn take_plain_unsigned(place: &mut Place, input: &mut Chars<'_>, max: u64) -
         place.old input.old place.new input.new result }
 {
     place.skip_space(input);
-    let number = take_unsigned(place, input)?;
+    // Where at most three digits are wanted, how many stand there is not asked by a branch.
+    let number = if max < 1000 {
+        take_short(place, input)?
+    } else {
+        take_unsigned(place, input)?
+    };
     if number > max {
         return None;
     }

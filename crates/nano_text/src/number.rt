@@ -13,7 +13,7 @@ ghost use Rattle.nano_text.specs.Scan.{decimal_len, fraction_capacity, exponent_
 
 use crate::place::Place;
 use crate::run::{Digits, ExponentLen, take_run};
-use crate::whole::{negative_ahead, stand_after, unsigned_ahead};
+use crate::whole::{negative_ahead, short_ahead, stand_after, unsigned_ahead};
 use std::alloc::AllocError;
 use std::str::Chars;
 
@@ -154,6 +154,22 @@ pub fn take_unsigned(p: &mut Place, i: &mut Chars<'_>) -> Option<u64>
     ensures none { result ≡ None → (p.new ≡ p.old) × (i.new ≡ i.old) }
 {
     let ahead = unsigned_ahead(p.cur, i.as_str().as_bytes())?;
+    stand_after(p, i, ahead);
+    Some(ahead.value)
+}
+
+/// Takes the whole number of at most three digits that begins at the current character, without a
+/// branch on how many they are. `None`, which takes nothing, where there is none, and where what
+/// follows it is unusual.
+#[inline(always)]
+pub fn take_short(p: &mut Place, i: &mut Chars<'_>) -> Option<u64>
+    ensures found { IfSome result (λ value. (run : List ℕ)
+        × IsNumber (text_at p.old i.old) (Number.U64 value) run (text_at p.new i.new)) }
+    ensures begins { IfSome result (λ _. is_ascii_digit p.old.cur ≡ true) }
+    ensures place { Counts p.old i.old p.new i.new }
+    ensures none { result ≡ None → (p.new ≡ p.old) × (i.new ≡ i.old) }
+{
+    let ahead = short_ahead(p.cur, i.as_str().as_bytes())?;
     stand_after(p, i, ahead);
     Some(ahead.value)
 }

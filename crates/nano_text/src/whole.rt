@@ -1,7 +1,7 @@
 //! Whole numbers of few digits, which nearly all numbers are: their digits are looked at in one
 //! loop, and taken at once. Anything else falls back to `run`; no input is consumed.
 
-ghost use Rattle.std.specs.Prelude.{◌≡◌, ◌≢◌, ◌<◌, ◌^◌, true, false, IfSome, length, get_or};
+ghost use Rattle.std.specs.Prelude.{◌≡◌, ◌≢◌, ◌<◌, ◌≤◌, ◌^◌, true, false, IfSome, length, get_or};
 ghost use Rattle.std.specs.Prelude.{pos, neg_ℤ};
 ghost use Rattle.std.specs.Char.{is_ascii_digit, digit_value};
 ghost use Rattle.std.specs.Str.Iter.{chars_rest};
@@ -19,6 +19,9 @@ const MOST: usize = 18;
 
 /// Among so many bytes the digits end, or they are too many.
 const AHEAD: usize = MOST + 1;
+
+/// Among so many bytes a number of at most three digits ends, after its first one.
+const FEW: usize = 3;
 
 /// Digits that follow, and the character after them.
 #[derive(Clone, Copy)]
@@ -127,6 +130,35 @@ fn digits_ahead(first: u64, bytes: &[u8]) -> Option<Ahead>
     digits_among_enough(first, bytes)
 }
 
+/// Looks at the one or two digits that these bytes may begin with, after a first digit, with no
+/// branch on how many they are: where numbers are short, that cannot be foreseen. `None` where there
+/// are more, or what follows is unusual.
+#[inline(always)]
+fn few_digits(first: u64, bytes: &[u8]) -> Option<Ahead>
+    requires digit { first < 10 }
+    requires enough { 3 ≤ length bytes.now }
+    ensures len { IfSome result (λ ahead. ahead.len ≡ length (prefix is_ascii_digit bytes.now)) }
+    ensures value { IfSome result (λ ahead. ahead.value
+        ≡ digits_value_after 10 first (prefix is_ascii_digit bytes.now)) }
+    ensures next { IfSome result (λ ahead. (ahead.len < length bytes.now)
+        × (ahead.next ≡ get_or bytes.now ahead.len 0)) }
+    ensures ends { IfSome result (λ ahead. (continues None None ahead.next ≡ false)
+        × (ahead.next < 128)) }
+{
+    let has_second = bytes[0].is_ascii_digit();
+    let has_third = has_second & bytes[1].is_ascii_digit();
+    let len = usize::from(has_second) + usize::from(has_third);
+    let next = bytes[len];
+    if next != b',' && !ends_whole(next) {
+        return None;
+    }
+    let tens = first * 10 + u64::from(bytes[0].wrapping_sub(b'0'));
+    let hundreds = tens * 10 + u64::from(bytes[1].wrapping_sub(b'0'));
+    let values = [first, tens, hundreds];
+    let value = values[len];
+    Some(Ahead { len, value, next })
+}
+
 /// Takes the digits that follow, and the character after them.
 #[inline(always)]
 pub(crate) fn stand_after(p: &mut Place, i: &mut Chars<'_>, ahead: Ahead)
@@ -167,6 +199,25 @@ pub(crate) fn unsigned_ahead(cur: char, bytes: &[u8]) -> Option<Ahead>
         return None;
     }
     digits_ahead(u64::from(u32::from(cur) - u32::from('0')), bytes)
+}
+
+/// The digits of a whole number of at most three digits that begins at a digit, which is taken
+/// already, and goes on with these bytes: with no branch on how many they are.
+#[inline(always)]
+pub(crate) fn short_ahead(cur: char, bytes: &[u8]) -> Option<Ahead>
+    ensures digit { IfSome result (λ _. is_ascii_digit cur ≡ true) }
+    ensures len { IfSome result (λ ahead. ahead.len ≡ length (prefix is_ascii_digit bytes.now)) }
+    ensures value { IfSome result (λ ahead. ahead.value
+        ≡ digits_value_after 10 (digit_value cur) (prefix is_ascii_digit bytes.now)) }
+    ensures next { IfSome result (λ ahead. (ahead.len < length bytes.now)
+        × (ahead.next ≡ get_or bytes.now ahead.len 0)) }
+    ensures ends { IfSome result (λ ahead. (continues None None ahead.next ≡ false)
+        × (ahead.next < 128)) }
+{
+    if !cur.is_ascii_digit() || bytes.len() < FEW {
+        return None;
+    }
+    few_digits(u64::from(u32::from(cur) - u32::from('0')), bytes)
 }
 
 /// The digits of the whole number that begins at a minus, which is taken already, and goes on with
