@@ -31,6 +31,7 @@ pub mod FieldCodecLaws
 pub mod FieldsLaws
 pub mod NoFieldsLaws
 pub mod ItemLaws
+pub mod BracketLaws
 pub mod ListsLaws
 pub mod MapsLaws
 pub mod OptionsLaws

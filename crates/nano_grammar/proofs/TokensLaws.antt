@@ -167,7 +167,7 @@ tokens_left is_end here = length here.text + cond (is_end here.token) 0 1
 module _ {T : Type 0} (cut : List ℕ → T → List ℕ → Type 0) (is_end : T → Bool)
     (shorter : (text : List ℕ) (t : T) (rest : List ℕ) → cut text t rest
     → length rest + cond (is_end t) 0 1 ≤ length text) where
-  cut_shorter : (here next : At T) → cut here.text next.token next.text
+  pub cut_shorter : (here next : At T) → cut here.text next.token next.text
       → tokens_left is_end next ≤ length here.text
   unfolding tokens_left
   cut_shorter here next h = shorter here.text next.token next.text h
@@ -176,7 +176,7 @@ module _ {T : Type 0} (cut : List ℕ → T → List ℕ → Type 0) (is_end : T
   unfolding tokens_left
   text_le here = omega arith
 
-  text_lt : (here : At T) → is_end here.token ≡ false → length here.text < tokens_left is_end here
+  pub text_lt : (here : At T) → is_end here.token ≡ false → length here.text < tokens_left is_end here
   unfolding tokens_left
   text_lt here h = rw h (omega arith)
 

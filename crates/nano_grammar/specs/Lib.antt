@@ -3,6 +3,7 @@ pub mod Faults
 pub mod Codec
 pub mod BaseCodecs
 pub mod Items
+pub mod Brackets
 pub mod Promises
 pub mod Lists
 pub mod Maps

@@ -1,72 +1,34 @@
--- Tokens and their brackets: how many stand in a list, what its prefixes are, and the tests of one.
-use Rattle.std.proofs.Common.{◌≡◌, ◌≢◌, ℕ, ◌+◌, ◌≤◌, List, [], ◌∷◌, ◌++◌, ◌⊎◌, inl, inr}
+-- Tests of a token and its brackets.
+use Rattle.std.proofs.Common.{◌≡◌, ◌≢◌, ℕ, ◌≤◌, List, inl, inr}
 use Rattle.std.proofs.Common.{refl, ap, sym, ◌∙◌, true, false, arith}
-use Rattle.std.specs.List.{AllByRecursion}
 use Rattle.nano_ron_tokens.specs.Token.{Token, ident, str, u64, i64, f64, bool, character}
 use Rattle.nano_ron_tokens.specs.Token.{curly_open, paren_open, block_open, end, IsIdent}
 use Rattle.nano_ron_tokens.specs.Scan.{is_scalar, is_opening, is_paren_open, is_end}
 use Rattle.nano_ron_tokens.specs.Skipped.{BeginsField, IsScalar, OpensContent, opens, closes}
-use Rattle.nano_ron_tokens.specs.Skipped.{opens_in, closes_in}
-
--- the end is none of them
-abbrev pub NoEnd : List Token → Type 0
-NoEnd ts = AllByRecursion (λ t. t ≢ end) ts
-
-pub opens_in-append : (a b : List Token) → opens_in (a ++ b) ≡ opens_in a + opens_in b
-opens_in-append [] b = omega arith
-opens_in-append (t ∷ a) b = omega (arith, opens_in-append a b)
-
-pub closes_in-append : (a b : List Token) → closes_in (a ++ b) ≡ closes_in a + closes_in b
-closes_in-append [] b = omega arith
-closes_in-append (t ∷ a) b = omega (arith, closes_in-append a b)
-
-pub NoEnd-append : (a : List Token) (t : Token) → NoEnd a → t ≢ end → NoEnd (a ++ t ∷ [])
-NoEnd-append [] t h k = (k, tt)
-NoEnd-append (x ∷ a) t h k = (h.0, NoEnd-append a t h.1 k)
-
-pub NoEnd-following : (a : List Token) (t : Token) (cs : List Token) → NoEnd (a ++ t ∷ cs) → t ≢ end
-NoEnd-following [] t cs h = h.0
-NoEnd-following (x ∷ a) t cs h = NoEnd-following a t cs h.1
-
-none_after : (a b : List Token) → [] ≡ a ++ b → b ≡ []
-none_after [] b e = sym e
-none_after (x ∷ a) b e = cc e
-
-pub none_before : (a b : List Token) → [] ≡ a ++ b → a ≡ []
-none_before [] b e = refl
-none_before (x ∷ a) b e = cc e
-
--- a prefix of a list with one more token is the whole, or a prefix of the list
-pub prefixes : (a b prefix : List Token) (t : Token) → prefix ++ t ∷ [] ≡ a ++ b → (b ≡ []) ⊎ ((c : List Token) × (prefix ≡ a ++ c))
-prefixes [] b prefix t e = inr (prefix, refl)
-prefixes (x ∷ a) b [] t e = let rest : [] ≡ a ++ b = cc e in inl (none_after a b rest)
-prefixes (x ∷ a) b (f ∷ prefix) t e =
-    let head : f ≡ x = cc e in
-    let rest : prefix ++ t ∷ [] ≡ a ++ b = cc e in
-    elim (prefixes a b prefix t rest) [ inl p ↦ inl p | inr p ↦ inr (p.0, cc (head, p.1)) ]
-
--- the tests of a token and its brackets
-
-pub opening_opens : (t : Token) → is_opening t ≡ true → (opens t ≡ 1) × (closes t ≡ 0) × (t ≢ end)
-opening_opens curly_open e = (refl, refl, λ x. cc x)
-opening_opens paren_open e = (refl, refl, λ x. cc x)
-opening_opens block_open e = (refl, refl, λ x. cc x)
-opening_opens _ e = cc e
-
-pub opens_opening : (t : Token) → opens t ≡ 1 → is_opening t ≡ true
-opens_opening curly_open e = refl
-opens_opening paren_open e = refl
-opens_opening block_open e = refl
-opens_opening _ e = cc e
-
-pub opening_one : (t : Token) → is_opening t ≡ true → opens t ≡ 1
-opening_one t e = (opening_opens t e).0
 
 pub opens_at_most_one : (t : Token) → opens t ≤ 1
 opens_at_most_one curly_open = omega arith
 opens_at_most_one paren_open = omega arith
 opens_at_most_one block_open = omega arith
 opens_at_most_one _ = omega arith
+
+pub opens_only : (t : Token) → opens t ≡ 1 → (closes t ≡ 0) × (t ≢ end)
+opens_only curly_open e = (refl, λ x. cc x)
+opens_only paren_open e = (refl, λ x. cc x)
+opens_only block_open e = (refl, λ x. cc x)
+opens_only _ e = cc e
+
+opens_opening : (t : Token) → opens t ≡ 1 → is_opening t ≡ true
+opens_opening curly_open e = refl
+opens_opening paren_open e = refl
+opens_opening block_open e = refl
+opens_opening _ e = cc e
+
+pub opening_one : (t : Token) → is_opening t ≡ true → opens t ≡ 1
+opening_one curly_open e = refl
+opening_one paren_open e = refl
+opening_one block_open e = refl
+opening_one _ e = cc e
 
 pub scalar_is : (t : Token) → is_scalar t ≡ true → IsScalar t
 scalar_is (ident name) e = tt

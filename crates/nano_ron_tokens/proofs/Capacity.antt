@@ -6,7 +6,6 @@ use Rattle.nano_text.specs.Characters.{prefix, first_is}
 use Rattle.nano_text.specs.Number.{IsNumber}
 use Rattle.nano_text.specs.String.{IsString}
 use Rattle.nano_text.specs.declared.number.Number.TheVariants.{U64, I64, Dec}
-use Rattle.nano_grammar.specs.Tokens.{At}
 use Rattle.nano_text.proofs.Numbers.{IsNumber-unique, IsNumber-shorter}
 use Rattle.nano_ron_tokens.specs.Cut.{is_word, IsWord, IsRunOf, IsQuoted, Cut, starts_word}
 use Rattle.nano_ron_tokens.specs.Cut.{IsPunctuator, IsCharacter, IsEnd, IsLexeme, punctuator, word}
@@ -78,10 +77,6 @@ word_keeps old new text rest strbuf numbuf h = record {
 
 -- ==== what is left is shorter
 
--- how many tokens may be left at most, the pending one with them
-unfoldable pub left : At Token → ℕ
-left s = length s.text + cond (is_end s.token) 0 1
-
 -- at most as much is left as before, with the token
 abbrev LeavesLess : Token → List ℕ → List ℕ → Type 0
 LeavesLess t text rest = length rest + cond (is_end t) 0 1 ≤ length text
@@ -143,20 +138,3 @@ lexeme_shorter t text rest (nothing h) = end_shorter t text rest h
 pub cut_takes : (text : List ℕ) (t : Token) (rest : List ℕ) → Cut text t rest → length rest + cond (is_end t) 0 1 ≤ length text
 cut_takes text t rest h =
     omega (arith, lexeme_shorter t h.body rest h.lexeme, ap length h.split, length-append h.gap h.body)
-
--- what is left after a token was left before it, with the token
-pub cut_shorter : (s m : At Token) → Cut s.text m.token m.text → left m ≤ length s.text
-unfolding left
-cut_shorter s m h = cut_takes s.text m.token m.text h
-
-pub not_end : (t : Token) → t ≢ end → is_end t ≡ false
-not_end end h = absurd (h refl)
-not_end _ h = refl
-
--- another token than the end is one more
-pub left_token : (s : At Token) → s.token ≢ end → left s ≡ length s.text + 1
-unfolding left
-left_token s h = rw (not_end s.token h) refl
-
-pub token_shorter : (s m : At Token) → s.token ≢ end → Cut s.text m.token m.text → left m < left s
-token_shorter s m more c = omega (arith, cut_shorter s m c, left_token s more)

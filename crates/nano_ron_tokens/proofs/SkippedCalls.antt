@@ -17,7 +17,8 @@ use Rattle.nano_ron_tokens.specs.Skipped.{NoField, TookField, TookBrackets, Begi
 use Rattle.nano_ron_tokens.specs.Skipped.{NoCapacityAfter}
 use Rattle.nano_ron_tokens.specs.State.{at, ended, pending, KeepsOtherBuffers}
 use Rattle.nano_ron_tokens.specs.declared.state.DeRonState.{DeRonState}
-use Rattle.nano_ron_tokens.proofs.BracketCounts.{word_first, bracket_not_one, skipped_bracket}
+use Rattle.nano_grammar.proofs.BracketLaws.{bracket_not_one}
+use Rattle.nano_ron_tokens.proofs.BracketCounts.{brackets, word_first, skipped_bracket}
 use Rattle.nano_ron_tokens.proofs.BracketCounts.{skipped_some, ends_other, ends_word}
 use Rattle.nano_ron_tokens.proofs.BracketTokens.{word_is, word_scalar, opening_one}
 use Rattle.nano_ron_tokens.proofs.BracketTokens.{opens_content}
@@ -125,11 +126,11 @@ module _ (old new : DeRonState) (i j : Chars) where
         skipped = skipped;
         took = record {
           taken = h.1.taken;
-          buffers = λ e. absurd (bracket_not_one ts (pending old) h.0 e);
+          buffers = λ e. absurd (bracket_not_one brackets ts (pending old) h.0 e);
           place = h.1.place;
         };
         whole = λ more k.
-            ends_other ts more (pending new) skipped (λ name e. bracket_not_one ts (ident name) h.0 e) k;
+            ends_other ts more (pending new) skipped (λ name e. bracket_not_one brackets ts (ident name) h.0 e) k;
       }
 
   pub brackets_not : {e : Report} → is_scalar (pending old) ≡ false → is_opening (pending old) ≡ true

@@ -1,9 +1,9 @@
 -- A skipped field: one token of a value, a whole bracket, or a word with content.
-use Rattle.std.specs.Prelude.{◌≡◌, ◌≢◌, ◌⊎◌, ℕ, ◌+◌, List, [], ◌∷◌, ◌++◌, true, Result, MatchResult}
-use Rattle.std.specs.List.{AllByRecursion}
+use Rattle.std.specs.Prelude.{◌≡◌, ◌≢◌, ◌⊎◌, ℕ, List, [], ◌∷◌, ◌++◌, true, Result, MatchResult}
 use Rattle.std.specs.declared.str.Chars.{Chars}
 use Rattle.nano_text.specs.Place.{remaining}
 use Rattle.nano_grammar.specs.Tokens.{Leaves}
+use Rattle.nano_grammar.specs.Brackets.{IsBracketed as IsBracketedBy, Brackets as BracketsBy}
 use Rattle.nano_grammar.specs.Outcomes.{Position, Took, RejectsToken, ReadsNoneAndEnds}
 use Rattle.nano_grammar.specs.Outcomes.{Moved as MovedTo, GoesWrong as GoesWrongBy}
 use Rattle.nano_ron_tokens.specs.Token.{Token, ident, str, u64, i64, f64, bool, character}
@@ -32,16 +32,6 @@ closes paren_close = 1
 closes block_close = 1
 closes _ = 0
 
--- how many opening brackets stand in the tokens
-abbrev pub opens_in : List Token → ℕ
-opens_in [] = 0
-opens_in (t ∷ ts) = opens t + opens_in ts
-
--- how many closing brackets stand in the tokens
-abbrev pub closes_in : List Token → ℕ
-closes_in [] = 0
-closes_in (t ∷ ts) = closes t + closes_in ts
-
 -- a token that is a whole value
 abbrev pub IsScalar : Token → Type 0
 IsScalar (ident name) = Unit {0}
@@ -53,17 +43,9 @@ IsScalar (bool b) = Unit {0}
 IsScalar (character c) = Unit {0}
 IsScalar _ = ⊥
 
--- an opening bracket first, as many closing as opening brackets in all, and in no shorter
--- prefix but the empty one; the end nowhere
-pub record IsBracketed (ts : List Token) : Type 0 where
-  pub first : Token
-  pub following : List Token
-  pub are : ts ≡ first ∷ following
-  pub opening : opens first ≡ 1
-  pub even : opens_in ts ≡ closes_in ts
-  pub shortest : (prefix back : List Token) → ts ≡ prefix ++ back
-      → opens_in prefix ≡ closes_in prefix → (prefix ≡ []) ⊎ (back ≡ [])
-  pub no_end : AllByRecursion (λ t. t ≢ end) ts
+-- tokens from an opening bracket to the one that closes it
+abbrev pub IsBracketed : List Token → Type 0
+IsBracketed = IsBracketedBy opens closes end
 
 -- a word, and content in parentheses: brackets that open with one
 pub record HasContent (ts : List Token) : Type 0 where
@@ -78,7 +60,7 @@ SkippedField ts = ((t : Token) × (ts ≡ t ∷ []) × IsScalar t) ⊎ (IsBracke
 
 -- brackets with all between them, and a skipped field, which stand for no value
 abbrev pub Brackets : List Token → Unit {0} → Type 0
-Brackets ts value = IsBracketed ts
+Brackets = BracketsBy opens closes end
 
 abbrev pub Skips : List Token → Unit {0} → Type 0
 Skips ts value = SkippedField ts
