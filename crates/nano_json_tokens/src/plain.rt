@@ -179,12 +179,7 @@ pub fn take_plain_unsigned(place: &mut Place, input: &mut Chars<'_>, max: u64) -
         place.old input.old place.new input.new result }
 {
     place.skip_space(input);
-    // Where at most three digits are wanted, how many stand there is not asked by a branch.
-    let number = if max < 1000 {
-        take_short(place, input)?
-    } else {
-        take_unsigned(place, input)?
-    };
+    let number = take_unsigned(place, input, max)?;
     if number > max {
         return None;
     }
@@ -201,7 +196,7 @@ fn take_integer(place: &mut Place, input: &mut Chars<'_>) -> Option<i64>
     if place.cur == '-' {
         return take_negative(place, input);
     }
-    let number = take_unsigned(place, input)?;
+    let number = take_unsigned(place, input, i64::MAX as u64)?;
     if number > i64::MAX as u64 {
         return None;
     }

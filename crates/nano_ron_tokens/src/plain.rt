@@ -13,7 +13,7 @@ ghost use Rattle.nano_ron_tokens.specs.Scan.{AnUnsigned, AnInteger, IsInteger};
 ghost use Rattle.nano_ron_tokens.specs.Scan.{punctuator_of};
 ghost use Rattle.nano_ron_tokens.specs.Token.{Token, str};
 
-use nano_text::{Place, read_string, take_negative, take_short, take_unsigned};
+use nano_text::{Place, read_string, take_negative, take_unsigned};
 use std::str::Chars;
 
 /// Takes this punctuator, if it is the current character, and answers whether it did.
@@ -53,12 +53,7 @@ pub fn take_plain_unsigned(place: &mut Place, input: &mut Chars<'_>, max: u64) -
         place.old input.old place.new input.new result }
 {
     place.skip_space(input);
-    // Where at most three digits are wanted, how many stand there is not asked by a branch.
-    let number = if max < 1000 {
-        take_short(place, input)?
-    } else {
-        take_unsigned(place, input)?
-    };
+    let number = take_unsigned(place, input, max)?;
     if number > max {
         return None;
     }
@@ -75,7 +70,7 @@ fn take_integer(place: &mut Place, input: &mut Chars<'_>) -> Option<i64>
     if place.cur == '-' {
         return take_negative(place, input);
     }
-    let number = take_unsigned(place, input)?;
+    let number = take_unsigned(place, input, i64::MAX as u64)?;
     if number > i64::MAX as u64 {
         return None;
     }

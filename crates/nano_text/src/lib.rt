@@ -24,7 +24,7 @@ mod written;
 pub use body::{plain_string, plain_string_before};
 pub use capacity::bytes_left;
 pub use digits::{append_signed, append_unsigned};
-pub use number::{Fault, Number, read_number, take_negative, take_short, take_unsigned};
+pub use number::{Fault, Number, read_number, take_negative, take_unsigned};
 pub use place::Place;
 pub use rollback::rollback_on_error;
 pub use space::is_space;

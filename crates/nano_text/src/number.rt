@@ -13,7 +13,7 @@ ghost use Rattle.nano_text.specs.Scan.{decimal_len, fraction_capacity, exponent_
 
 use crate::place::Place;
 use crate::run::{Digits, ExponentLen, take_run};
-use crate::whole::{negative_ahead, short_ahead, stand_after, unsigned_ahead};
+use crate::whole::{negative_ahead, stand_after, unsigned_ahead};
 use std::alloc::AllocError;
 use std::str::Chars;
 
@@ -143,33 +143,20 @@ fn decimal_len(
     }
 }
 
-/// Takes the whole number without a sign that begins at the current character. `None`, which takes
-/// nothing, where there is none, and where it has many digits or what follows it is unusual.
+/// Takes the whole number without a sign that begins at the current character, where at most `max`
+/// is wanted; it may be greater. `None`, which takes nothing, where there is none, and where it has
+/// many digits or what follows it is unusual.
+///
+/// Below 1,000 no branch asks how many digits there are, which nobody can foresee.
 #[inline(always)]
-pub fn take_unsigned(p: &mut Place, i: &mut Chars<'_>) -> Option<u64>
+pub fn take_unsigned(p: &mut Place, i: &mut Chars<'_>, max: u64) -> Option<u64>
     ensures found { IfSome result (λ value. (run : List ℕ)
         × IsNumber (text_at p.old i.old) (Number.U64 value) run (text_at p.new i.new)) }
     ensures begins { IfSome result (λ _. is_ascii_digit p.old.cur ≡ true) }
     ensures place { Counts p.old i.old p.new i.new }
     ensures none { result ≡ None → (p.new ≡ p.old) × (i.new ≡ i.old) }
 {
-    let ahead = unsigned_ahead(p.cur, i.as_str().as_bytes())?;
-    stand_after(p, i, ahead);
-    Some(ahead.value)
-}
-
-/// Takes the whole number of at most three digits that begins at the current character, without a
-/// branch on how many they are. `None`, which takes nothing, where there is none, and where what
-/// follows it is unusual.
-#[inline(always)]
-pub fn take_short(p: &mut Place, i: &mut Chars<'_>) -> Option<u64>
-    ensures found { IfSome result (λ value. (run : List ℕ)
-        × IsNumber (text_at p.old i.old) (Number.U64 value) run (text_at p.new i.new)) }
-    ensures begins { IfSome result (λ _. is_ascii_digit p.old.cur ≡ true) }
-    ensures place { Counts p.old i.old p.new i.new }
-    ensures none { result ≡ None → (p.new ≡ p.old) × (i.new ≡ i.old) }
-{
-    let ahead = short_ahead(p.cur, i.as_str().as_bytes())?;
+    let ahead = unsigned_ahead(p.cur, i.as_str().as_bytes(), max)?;
     stand_after(p, i, ahead);
     Some(ahead.value)
 }
@@ -217,7 +204,7 @@ pub fn read_number(p: &mut Place, i: &mut Chars<'_>, numbuf: &mut String) -> Res
     ensures malformed { result ≡ Err Fault.Malformed → (number : Number) (run rest : List ℕ)
         → IsNumber (text_at p.old i.old) number run rest → ⊥ }
 {
-    if let Some(ahead) = unsigned_ahead(p.cur, i.as_str().as_bytes()) {
+    if let Some(ahead) = unsigned_ahead(p.cur, i.as_str().as_bytes(), u64::MAX) {
         stand_after(p, i, ahead);
         return Ok(Number::U64(ahead.value));
     }

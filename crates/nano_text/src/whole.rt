@@ -159,6 +159,25 @@ fn few_digits(first: u64, bytes: &[u8]) -> Option<Ahead>
     Some(Ahead { len, value, next })
 }
 
+/// Looks at the digits that these bytes begin with, after a first digit, as `few_digits` does.
+/// `None` at the end of a text, too, where there are fewer bytes than it looks at.
+#[inline(always)]
+fn short_ahead(first: u64, bytes: &[u8]) -> Option<Ahead>
+    requires { first < 10 }
+    ensures len { IfSome result (λ ahead. ahead.len ≡ length (prefix is_ascii_digit bytes.now)) }
+    ensures value { IfSome result (λ ahead. ahead.value
+        ≡ digits_value_after 10 first (prefix is_ascii_digit bytes.now)) }
+    ensures next { IfSome result (λ ahead. (ahead.len < length bytes.now)
+        × (ahead.next ≡ get_or bytes.now ahead.len 0)) }
+    ensures ends { IfSome result (λ ahead. (continues None None ahead.next ≡ false)
+        × (ahead.next < 128)) }
+{
+    if bytes.len() < FEW {
+        return None;
+    }
+    few_digits(first, bytes)
+}
+
 /// Takes the digits that follow, and the character after them.
 #[inline(always)]
 pub(crate) fn stand_after(p: &mut Place, i: &mut Chars<'_>, ahead: Ahead)
@@ -183,9 +202,9 @@ pub(crate) fn stand_after(p: &mut Place, i: &mut Chars<'_>, ahead: Ahead)
 }
 
 /// The digits of the whole number that begins at a digit, which is taken already, and goes on with
-/// these bytes.
+/// these bytes. Where at most `max` is wanted, one of more digits may be `None`.
 #[inline(always)]
-pub(crate) fn unsigned_ahead(cur: char, bytes: &[u8]) -> Option<Ahead>
+pub(crate) fn unsigned_ahead(cur: char, bytes: &[u8], max: u64) -> Option<Ahead>
     ensures digit { IfSome result (λ _. is_ascii_digit cur ≡ true) }
     ensures len { IfSome result (λ ahead. ahead.len ≡ length (prefix is_ascii_digit bytes.now)) }
     ensures value { IfSome result (λ ahead. ahead.value
@@ -198,26 +217,11 @@ pub(crate) fn unsigned_ahead(cur: char, bytes: &[u8]) -> Option<Ahead>
     if !cur.is_ascii_digit() {
         return None;
     }
-    digits_ahead(u64::from(u32::from(cur) - u32::from('0')), bytes)
-}
-
-/// The digits of a whole number of at most three digits that begins at a digit, which is taken
-/// already, and goes on with these bytes: with no branch on how many they are.
-#[inline(always)]
-pub(crate) fn short_ahead(cur: char, bytes: &[u8]) -> Option<Ahead>
-    ensures digit { IfSome result (λ _. is_ascii_digit cur ≡ true) }
-    ensures len { IfSome result (λ ahead. ahead.len ≡ length (prefix is_ascii_digit bytes.now)) }
-    ensures value { IfSome result (λ ahead. ahead.value
-        ≡ digits_value_after 10 (digit_value cur) (prefix is_ascii_digit bytes.now)) }
-    ensures next { IfSome result (λ ahead. (ahead.len < length bytes.now)
-        × (ahead.next ≡ get_or bytes.now ahead.len 0)) }
-    ensures ends { IfSome result (λ ahead. (continues None None ahead.next ≡ false)
-        × (ahead.next < 128)) }
-{
-    if !cur.is_ascii_digit() || bytes.len() < FEW {
-        return None;
+    let first = u64::from(u32::from(cur) - u32::from('0'));
+    if max < 1000 {
+        return short_ahead(first, bytes);
     }
-    few_digits(u64::from(u32::from(cur) - u32::from('0')), bytes)
+    digits_ahead(first, bytes)
 }
 
 /// The digits of the whole number that begins at a minus, which is taken already, and goes on with
