@@ -16,9 +16,7 @@ ghost use Rattle.nano_json_tokens.specs.Scan.{punctuator_of};
 ghost use Rattle.nano_json_tokens.specs.Token.{Token, str, colon, null};
 
 use crate::words::is_word;
-use nano_text::{
-    Place, plain_string_before, read_string, take_negative, take_short, take_unsigned,
-};
+use nano_text::{Place, plain_string_before, read_string, take_negative, take_unsigned};
 use std::str::Chars;
 
 /// Takes this character, if it is the current one.

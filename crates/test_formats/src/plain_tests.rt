@@ -153,14 +153,33 @@ fn attempts(rt: HostRuntime) {
     holds(&rt, attempts.is_due(), "a look that finds some");
 }
 
+/// What is taken of a text where at most 255 is wanted.
+fn small(text: &str) -> Option<u64> {
+    let (mut place, mut input) = first_place(text);
+    take_unsigned(&mut place, &mut input, 255)
+}
+
+/// Small numbers of each length, and what follows them.
+#[test]
+fn small_numbers(rt: HostRuntime) {
+    let all = ["7,  ", "42]  ", "255}  ", "256, "];
+    let values = [7, 42, 255, 256];
+    for (text, value) in all.iter().zip(values) {
+        holds(&rt, small(text) == Some(value), text);
+    }
+    for text in ["1234, ", "7.5  ", "8e1  ", "-7,  ", "7x   ", "é  ", "7"] {
+        holds(&rt, small(text).is_none(), text);
+    }
+}
+
 /// Numbers that are taken at once, and states that stand where a place is.
 #[test]
 fn lexemes_and_states(rt: HostRuntime) {
     let alloc = rt.alloc();
     let (mut place, mut input) = first_place("12 -3 4");
-    let number = take_unsigned(&mut place, &mut input);
+    let number = take_unsigned(&mut place, &mut input, u64::MAX);
     place.skip_space(&mut input);
-    let none = take_unsigned(&mut place, &mut input);
+    let none = take_unsigned(&mut place, &mut input, u64::MAX);
     let negative = take_negative(&mut place, &mut input);
     let taken = number == Some(12) && none.is_none() && negative == Some(-3);
     holds(&rt, taken && place.line == 0 && place.col == 6, "12 -3 4");
