@@ -159,8 +159,8 @@ fn few_digits(first: u64, bytes: &[u8]) -> Option<Ahead>
     Some(Ahead { len, value, next })
 }
 
-/// Looks at the digits that these bytes begin with, after a first digit, as `few_digits` does.
-/// `None` at the end of a text, too, where there are fewer bytes than it looks at.
+/// Looks at the digits that these bytes begin with, after a first digit, as `few_digits` does, or
+/// at the end of a text, where the bytes are fewer, one by one.
 #[inline(always)]
 fn short_ahead(first: u64, bytes: &[u8]) -> Option<Ahead>
     requires { first < 10 }
@@ -173,7 +173,7 @@ fn short_ahead(first: u64, bytes: &[u8]) -> Option<Ahead>
         × (ahead.next < 128)) }
 {
     if bytes.len() < FEW {
-        return None;
+        return last_digits(first, bytes);
     }
     few_digits(first, bytes)
 }
