@@ -1,15 +1,22 @@
-use Rattle.std.proofs.Common.{◌≡◌, ◌++◌, ◌∙◌, ap, sym, subst, true, false, List, ℕ, chars}
+use Rattle.std.proofs.Common.{◌≡◌, ◌≢◌, ◌++◌, ◌∙◌, ap, refl, sym, subst, true, false, List, ℕ, chars}
 use Rattle.std.proofs.Common.{string_bytes, encode_utf8_all, rules, arith}
 use Rattle.std.proofs.lemmas.Grind.{common_steps}
 use Rattle.nano_text.specs.Place.{before_nul, remaining, remaining_text}
 use Rattle.nano_json_tokens.specs.Cut.{Cut}
+use Rattle.nano_grammar.proofs.BracketLaws.{one_less}
+use Rattle.nano_json_tokens.specs.Scan.{is_end}
 use Rattle.nano_json_tokens.specs.State.{at, pending}
-use Rattle.nano_json_tokens.proofs.Capacity.{token_shorter}
+use Rattle.nano_json_tokens.specs.Token.{Token, end}
+use Rattle.nano_json_tokens.proofs.BracketCounts.{brackets}
 use Rattle.nano_json_indent.specs.Layout.{kind, level_after, gap}
 use Rattle.nano_json_indent.specs.declared.kind.Kind.{Kind}
 use Rattle.nano_json_indent.specs.declared.kind.Kind.TheVariants.{Start}
 use Rattle.nano_json_indent.proofs.Progress.{Progress, none_written, one_more_written, all_written}
 use Rattle.nano_json_indent.proofs.layout.indent.Goals as goal
+
+not_end : (t : Token) → t ≢ end → is_end t ≡ false
+not_end end h = absurd (h refl)
+not_end _ h = refl
 
 pub tokens-init : goal.tokens-init
 tokens-init c =
@@ -23,8 +30,9 @@ tokens-init c =
 pub tokens-smaller : goal.tokens-smaller
 tokens-smaller c =
     let more : c.is_end.result ≡ false = first_of (search rules, cc, grind (arith, common_steps, c.tokens-test.true)) in
-    token_shorter (at c.tokens.state c.tokens.input) (at c.take-in-tokens.new.state c.take-in-tokens.new.input)
-    (c.is_end.ensures.more more) c.in_ok-take-2.ensures
+    let s = at c.tokens.state c.tokens.input in
+    let next = at c.take-in-tokens.new.state c.take-in-tokens.new.input in
+    one_less brackets s next (not_end s.token (c.is_end.ensures.more more)) c.in_ok-take-2.ensures
 
 pub tokens-preserved : goal.tokens-preserved
 tokens-preserved c =
