@@ -18,3 +18,4 @@ pub mod PlainStrings
 pub mod PlaceLaws
 pub mod RollbackLaws
 pub mod Spaces
+pub mod BreaksLaws

@@ -1,3 +1,4 @@
+pub mod Breaks
 pub mod Characters
 pub mod Promises
 pub mod Number

@@ -7,6 +7,7 @@ ghost use Rattle.std.specs.Char.{is_ascii_digit};
 ghost use Rattle.std.specs.Str.Parse.{digits_value};
 ghost use Rattle.nano_text.specs.Number.{IsNumber, AreGoodParts, number_from_parts, is_minus};
 ghost use Rattle.nano_text.specs.Number.{sign_text};
+ghost use Rattle.nano_text.specs.Breaks.{BreaksNumber};
 ghost use Rattle.nano_text.specs.Outcomes.{Counts, IsWord};
 ghost use Rattle.nano_text.specs.Place.{text_at};
 ghost use Rattle.nano_text.specs.Scan.{decimal_len, fraction_capacity, exponent_capacity};
@@ -203,6 +204,8 @@ pub fn read_number(p: &mut Place, i: &mut Chars<'_>, numbuf: &mut String) -> Res
         × (string_capacity numbuf.old < length run) }
     ensures malformed { result ≡ Err Fault.Malformed → (number : Number) (run rest : List ℕ)
         → IsNumber (text_at p.old i.old) number run rest → ⊥ }
+    ensures breaks { result ≡ Err Fault.Malformed
+        → BreaksNumber (text_at p.old i.old) (text_at p.new i.new) }
 {
     if let Some(ahead) = unsigned_ahead(p.cur, i.as_str().as_bytes(), u64::MAX) {
         stand_after(p, i, ahead);
@@ -229,6 +232,8 @@ fn read_other(p: &mut Place, i: &mut Chars<'_>, numbuf: &mut String) -> Result<N
         × (string_capacity numbuf.old < length run) }
     ensures malformed { result ≡ Err Fault.Malformed → (number : Number) (run rest : List ℕ)
         → IsNumber (text_at p.old i.old) number run rest → ⊥ }
+    ensures breaks { result ≡ Err Fault.Malformed
+        → BreaksNumber (text_at p.old i.old) (text_at p.new i.new) }
 {
     if let Some(ahead) = negative_ahead(p.cur, i.as_str().as_bytes()) {
         if let Some(number) = negative(ahead.value) {
@@ -252,6 +257,8 @@ fn read_run(p: &mut Place, i: &mut Chars<'_>, numbuf: &mut String) -> Result<Num
         × (string_capacity numbuf.old < length run) }
     ensures malformed { result ≡ Err Fault.Malformed → (number : Number) (run rest : List ℕ)
         → IsNumber (text_at p.old i.old) number run rest → ⊥ }
+    ensures breaks { result ≡ Err Fault.Malformed
+        → BreaksNumber (text_at p.old i.old) (text_at p.new i.new) }
 {
     let first = p.cur;
     let text = i.as_str();

@@ -5,6 +5,7 @@ ghost use Rattle.std.specs.Prelude.{IfSome, List, ℕ, string_bytes, string_capa
 ghost use Rattle.std.specs.Prelude.{encode_utf8_all, length};
 ghost use Rattle.std.specs.Char.{digit_value, is_ascii_hexdigit};
 ghost use Rattle.std.specs.List.{AllWithin};
+ghost use Rattle.nano_text.specs.Breaks.{BreaksEscape, BreaksString, BreaksUnicode, BreaksUnit};
 ghost use Rattle.nano_text.specs.Characters.{prefix, following};
 ghost use Rattle.nano_text.specs.Outcomes.{Appends, Counts};
 ghost use Rattle.nano_text.specs.Place.{IsInLine, text_at};
@@ -92,6 +93,7 @@ fn take_hex_digit(p: &mut Place, i: &mut Chars<'_>) -> Option<u32>
     ensures place { Counts p.old i.old p.new i.new }
     ensures none { result ≡ None → (c : ℕ) (rest : List ℕ)
         → is_ascii_hexdigit c ≡ true → text_at p.old i.old ≡ c ∷ rest → ⊥ }
+    ensures unchanged { result ≡ None → (p.new ≡ p.old) × (i.new ≡ i.old) }
 {
     let value = p.cur.to_digit(16)?;
     p.next(i);
@@ -107,6 +109,7 @@ fn take_code_unit(p: &mut Place, i: &mut Chars<'_>) -> Option<u32>
     ensures place { Counts p.old i.old p.new i.new }
     ensures none { result ≡ None → (unit : CodeUnit) (rest : List ℕ) → IsHex unit
         → text_at p.old i.old ≡ unit_text unit ++ rest → ⊥ }
+    ensures breaks { result ≡ None → BreaksUnit (text_at p.old i.old) (text_at p.new i.new) }
 {
     let first = take_hex_digit(p, i)?;
     let second = take_hex_digit(p, i)?;
@@ -123,6 +126,7 @@ fn take_unicode(p: &mut Place, i: &mut Chars<'_>) -> Option<char>
     ensures place { Counts p.old i.old p.new i.new }
     ensures none { result ≡ None → (piece : Piece) (rest : List ℕ) → IsPiece piece
         → 92 ∷ (117 ∷ text_at p.old i.old) ≡ piece_text piece ++ rest → ⊥ }
+    ensures breaks { result ≡ None → BreaksUnicode (text_at p.old i.old) (text_at p.new i.new) }
 {
     let lead = take_code_unit(p, i)?;
     if lead < 0xD800 || 0xDFFF < lead {
@@ -153,6 +157,8 @@ fn take_escape(p: &mut Place, i: &mut Chars<'_>) -> Option<char>
     ensures place { Counts p.old i.old p.new i.new }
     ensures none { result ≡ None → (piece : Piece) (rest : List ℕ) → IsPiece piece
         → text_at p.old i.old ≡ piece_text piece ++ rest → ⊥ }
+    ensures breaks { result ≡ None → (after : List ℕ)
+        × (text_at p.old i.old ≡ 92 ∷ after) × BreaksEscape after (text_at p.new i.new) }
 {
     p.next(i);
     if p.cur == 'u' {
@@ -180,6 +186,8 @@ fn read_pieces(p: &mut Place, i: &mut Chars<'_>, strbuf: &mut String) -> Result<
         → string_capacity strbuf.old < length (encode_utf8_all characters) }
     ensures malformed { result ≡ Err Fault.Malformed → (characters rest : List ℕ)
         → IsString (text_at p.old i.old) characters rest → ⊥ }
+    ensures breaks { result ≡ Err Fault.Malformed
+        → BreaksString (text_at p.old i.old) (text_at p.new i.new) }
 {
     strbuf.clear();
     if p.cur != '"' {
@@ -229,6 +237,8 @@ pub fn read_string(p: &mut Place, i: &mut Chars<'_>, strbuf: &mut String) -> Res
         → string_capacity strbuf.old < length (encode_utf8_all characters) }
     ensures malformed { result ≡ Err Fault.Malformed → (characters rest : List ℕ)
         → IsString (text_at p.old i.old) characters rest → ⊥ }
+    ensures breaks { result ≡ Err Fault.Malformed
+        → BreaksString (text_at p.old i.old) (text_at p.new i.new) }
 {
     if read_at_once(p, i, strbuf) {
         return Ok(());

@@ -9,6 +9,7 @@ use Rattle.nano_text.specs.Scan.{exponent_len, decimal_len, fraction_capacity, e
 use Rattle.nano_text.proofs.Numbers.{none_mapped, integer_found, integer_good, number_good}
 use Rattle.nano_text.proofs.Numbers.{integer_not_decimal, decimal_not}
 use Rattle.nano_text.proofs.RunBytes.{run_length, run_capacity, decimal_taken}
+use Rattle.nano_text.proofs.BreaksLaws.{number_breaks}
 use Rattle.nano_text.proofs.number.read_run.Goals as goal
 use Rattle.nano_text.proofs.number.read_run.Goals.{else-is_none-via-then-is_none+else-is_none-2}
 use Rattle.nano_text.proofs.number.read_run.Goals.{else-is_none-via-else-is_none}
@@ -100,3 +101,25 @@ returns-then-is_none-2-clause-found c =
     let minus : c.is_minus.result ≡ is_minus (run_at text).sign = c.is_minus.ensures ∙ ap is_minus taken.sign in
     let found = c.in-Some.ensures (run_at text).whole taken.whole taken.value in
     (run_text (run_at text), integer_found text _ c.in-Some.number c.is_minus.result taken.rest fraction exponent minus found, λ decimal. absurd (integer_not_decimal _ (run_at text).whole c.in-Some.number found.1 decimal))
+
+pub returns-in_default-decimal_len-clause-breaks : goal.returns-in_default-decimal_len-clause-breaks
+returns-in_default-decimal_len-clause-breaks c error =
+    let r = run_at (text_at c.args.p.now c.args.i.now) in
+    let taken = c.take_run-run.ensures in
+    let none = decimal_len_same taken.whole taken.fraction taken.exponent ∙ sym c.in_default-decimal_len.ensures in
+    let some : (r.fraction ≡ None) × (r.exponent ≡ None) → ⊥ = λ both. elim c.else-is_none.branch [
+      | else-is_none-via-then-is_none+else-is_none-2 w ↦ some_not_none exponent_len _ r.exponent w.if-is_none-2.ensures taken.exponent both.1
+      | else-is_none-via-else-is_none w ↦ some_not_none length _ r.fraction w.if-is_none.ensures taken.fraction both.0
+    ] in
+    number_breaks _ _ taken.rest (decimal_not (is_minus r.sign) r.whole r.fraction r.exponent some none)
+
+pub returns-in_default-clause-breaks : goal.returns-in_default-clause-breaks
+returns-in_default-clause-breaks c error =
+    let text = text_at c.args.p.now c.args.i.now in
+    let taken = c.take_run-run.ensures in
+    let fraction = none_mapped length _ (sym taken.fraction ∙ none_from _ c.if-is_none.ensures) in
+    let exponent = none_mapped exponent_len _ (sym taken.exponent ∙ none_from _ c.if-is_none-2.ensures) in
+    let minus : is_minus (run_at text).sign ≡ c.is_minus.result = sym (c.is_minus.ensures ∙ ap is_minus taken.sign) in
+    number_breaks _ _ taken.rest (λ good.
+        c.in_default.ensures (run_at text).whole taken.whole taken.value
+        (subst (λ (b : Bool). AreGoodParts b (run_at text).whole None None) minus (integer_good text fraction exponent good)))

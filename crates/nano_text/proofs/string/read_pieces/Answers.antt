@@ -7,6 +7,9 @@ use Rattle.nano_text.proofs.Strings.{piece_some, nothing_read, reads_piece, read
 use Rattle.nano_text.proofs.Strings.{written_le}
 use Rattle.nano_text.proofs.Prefixes.{after_shorter, plain_cut}
 use Rattle.nano_text.proofs.PlaceLaws.{moves_none, moves_append}
+use Rattle.nano_text.specs.Breaks.{is_quote, no_quote}
+use Rattle.nano_text.proofs.RemainingText.{remaining_stop}
+use Rattle.nano_text.proofs.BreaksLaws.{string_ends, escape_breaks}
 use Rattle.nano_text.proofs.string.read_pieces.Goals as goal
 
 -- the opening quote comes off the text
@@ -89,3 +92,19 @@ returns-in_err-push-clause-place c = moves_append c.pieces.invariant.place c.in-
 pub returns-clause-place : goal.returns-clause-place
 returns-clause-place c =
     moves_append c.pieces.invariant.place (c.next-2.ensures.counts (quote_some _ c.pieces-test.false))
+
+pub returns-then-p-ne34-clause-breaks : goal.returns-then-p-ne34-clause-breaks
+returns-then-p-ne34-clause-breaks c error =
+    no_quote refl (remaining_stop is_quote c.args.p.now.cur c.args.i.now refl (ne_eqb _ 34 c.if-p-ne34.true))
+
+pub returns-then-p-eq0-clause-breaks : goal.returns-then-p-eq0-clause-breaks
+returns-then-p-eq0-clause-breaks c error =
+    let quote = c.next.ensures.taken (quote_some _ c.if-p-ne34.false) ∙ ap (λ (n : ℕ). n ∷ text_at c.next.new.self c.next.new.i) c.if-p-ne34.false in
+    let at_end : text_at c.pieces.p c.pieces.i ≡ [] = rw c.if-p-eq0.true (remaining_end c.pieces.i) in
+    string_ends _ _ _ _ quote c.pieces.invariant.read at_end
+
+pub returns-in_default-clause-breaks : goal.returns-in_default-clause-breaks
+returns-in_default-clause-breaks c error =
+    let quote = c.next.ensures.taken (quote_some _ c.if-p-ne34.false) ∙ ap (λ (n : ℕ). n ∷ text_at c.next.new.self c.next.new.i) c.if-p-ne34.false in
+    let escape = c.in_default.ensures.breaks refl in
+    escape_breaks _ _ _ _ escape.0 _ quote c.pieces.invariant.read escape.1 escape.2

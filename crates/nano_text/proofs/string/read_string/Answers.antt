@@ -4,6 +4,7 @@ use Rattle.nano_text.specs.Place.{text_at}
 use Rattle.nano_text.proofs.PlaceLaws.{moves_append, moves_from}
 use Rattle.nano_text.proofs.RemainingText.{same_remaining}
 use Rattle.nano_text.specs.String.{IsString}
+use Rattle.nano_text.specs.Breaks.{BreaksString}
 use Rattle.nano_text.proofs.string.read_string.Goals as goal
 use Rattle.nano_text.proofs.string.read_string.Goals.{After-read_pieces-read}
 
@@ -30,3 +31,8 @@ pub returns-clause-place : goal.returns-clause-place
 returns-clause-place c =
     moves_append c.read_at_once.ensures.place
     (moves_from _ _ c.chars-rest.result c.read_at_once.new.i _ (c.chars-rest.ensures.rest ∙ c.as_str.ensures) c.read_pieces-read.ensures.place)
+
+pub returns-clause-breaks : goal.returns-clause-breaks
+returns-clause-breaks c error =
+    subst (λ (t : List ℕ). BreaksString t (text_at c.read_pieces-read.new.p c.read_pieces-read.new.i)) (same_text c)
+    (c.read_pieces-read.ensures.breaks error)

@@ -1,6 +1,8 @@
 use Rattle.std.proofs.Common.{refl}
 use Rattle.nano_text.proofs.Strings.{same_after_first}
 use Rattle.nano_text.proofs.PlaceLaws.{moves_append}
+use Rattle.std.proofs.Common.{◌∷◌, [], arith}
+use Rattle.nano_text.proofs.BreaksLaws.{unit_breaks}
 use Rattle.nano_text.proofs.string.take_code_unit.Goals as goal
 
 pub returns-in_err-first-clause-none : goal.returns-in_err-first-clause-none
@@ -51,3 +53,29 @@ pub returns-clause-place : goal.returns-clause-place
 returns-clause-place c =
     moves_append c.in_ok-first.ensures.place (moves_append c.in_ok-second.ensures.place
     (moves_append c.in_ok-third.ensures.place c.in_ok-fourth.ensures.place))
+
+pub returns-in_err-first-clause-breaks : goal.returns-in_err-first-clause-breaks
+returns-in_err-first-clause-breaks c none =
+    let same = c.in_err-first.ensures.unchanged refl in
+    unit_breaks _ _ _ [] tt (omega arith) refl (rw (same.0, same.1) refl) (c.in_err-first.ensures.none refl)
+
+pub returns-in_err-second-clause-breaks : goal.returns-in_err-second-clause-breaks
+returns-in_err-second-clause-breaks c none =
+    let same = c.in_err-second.ensures.unchanged refl in
+    unit_breaks _ _ _ (c.args.p.now.cur ∷ []) (c.in_ok-first.ensures.digit.0, tt) (omega arith)
+    c.in_ok-first.ensures.taken (rw (same.0, same.1) refl) (c.in_err-second.ensures.none refl)
+
+pub returns-in_err-third-clause-breaks : goal.returns-in_err-third-clause-breaks
+returns-in_err-third-clause-breaks c none =
+    let same = c.in_err-third.ensures.unchanged refl in
+    unit_breaks _ _ _ (c.args.p.now.cur ∷ (c.take_hex_digit.new.p.cur ∷ []))
+    (c.in_ok-first.ensures.digit.0, (c.in_ok-second.ensures.digit.0, tt)) (omega arith)
+    (rw (c.in_ok-first.ensures.taken, c.in_ok-second.ensures.taken) refl) (rw (same.0, same.1) refl) (c.in_err-third.ensures.none refl)
+
+pub returns-in_err-fourth-clause-breaks : goal.returns-in_err-fourth-clause-breaks
+returns-in_err-fourth-clause-breaks c none =
+    let same = c.in_err-fourth.ensures.unchanged refl in
+    unit_breaks _ _ _ (c.args.p.now.cur ∷ (c.take_hex_digit.new.p.cur ∷ (c.take_hex_digit-2.new.p.cur ∷ [])))
+    (c.in_ok-first.ensures.digit.0, (c.in_ok-second.ensures.digit.0, (c.in_ok-third.ensures.digit.0, tt))) (omega arith)
+    (rw (c.in_ok-first.ensures.taken, c.in_ok-second.ensures.taken, c.in_ok-third.ensures.taken) refl) (rw (same.0, same.1) refl)
+    (c.in_err-fourth.ensures.none refl)

@@ -3,6 +3,12 @@ use Rattle.nano_text.specs.String.{scalar, pair, unit_value}
 use Rattle.nano_text.proofs.RemainingText.{remaining-first}
 use Rattle.nano_text.proofs.Strings.{IfSome-from_SomeIff, unit_of_piece, paired, same_after_first}
 use Rattle.nano_text.proofs.PlaceLaws.{moves_append}
+use Rattle.std.proofs.Common.{ne_eqb}
+use Rattle.nano_text.specs.Breaks.{is_backslash, is_letter_u, no_unit, trails, no_pair}
+use Rattle.nano_text.specs.Breaks.{no_backslash, no_letter, no_second, no_trailing}
+use Rattle.nano_text.proofs.RemainingText.{remaining_stop}
+use Rattle.nano_text.proofs.string.take_unicode.Goals.{then-trail-lt56320-via-then-trail-lt56320}
+use Rattle.nano_text.proofs.string.take_unicode.Goals.{then-trail-lt56320-via-else-trail-lt56320+then-trail-gt57343}
 use Rattle.nano_text.proofs.string.take_unicode.Goals as goal
 use Rattle.nano_text.proofs.string.take_unicode.Goals.{then-lead-lt55296-via-then-lead-lt55296}
 use Rattle.nano_text.proofs.string.take_unicode.Goals.{then-lead-lt55296-via-else-lead-lt55296+then-lead-gt57343}
@@ -98,3 +104,51 @@ pub returns-clause-place : goal.returns-clause-place
 returns-clause-place c =
     moves_append c.in_ok-lead.ensures.place (moves_append (c.next.ensures.counts (λ e. omega (arith, e, c.if-p-ne92.false)))
     (moves_append (c.next-2.ensures.counts (λ e. omega (arith, e, c.if-p-ne117.false))) c.in_ok-trail.ensures.place))
+
+pub returns-in_err-lead-clause-breaks : goal.returns-in_err-lead-clause-breaks
+returns-in_err-lead-clause-breaks c none = no_unit (c.in_err-lead.ensures.breaks refl)
+
+pub returns-then-lead-gt56319-clause-breaks : goal.returns-then-lead-gt56319-clause-breaks
+returns-then-lead-gt56319-clause-breaks c none =
+    let unit = c.in_ok-lead.ensures.taken in
+    let low : 0xD800 ≤ unit_value unit.0 = omega (arith, unit.2, c.if-lead-lt55296.false) in
+    let high : unit_value unit.0 < 0xE000 = omega (arith, unit.2, c.if-lead-gt57343.false) in
+    elim c.then-lead-gt56319.branch [
+      | then-lead-gt56319-via-then-lead-gt56319 w ↦
+          trails unit.0 unit.1 (omega (arith, unit.2, w.if-lead-gt56319.true), high) unit.3
+      | then-lead-gt56319-via-else-lead-gt56319+then-p-ne92 w ↦
+          no_pair unit.0 _ unit.1 (low, omega (arith, unit.2, w.if-lead-gt56319.false)) unit.3
+          (no_backslash refl (remaining_stop is_backslash c.take_code_unit.new.p.cur c.take_code_unit.new.i refl (ne_eqb _ 92 w.if-p-ne92.true)))
+    ]
+
+pub returns-then-p-ne117-clause-breaks : goal.returns-then-p-ne117-clause-breaks
+returns-then-p-ne117-clause-breaks c none =
+    let unit = c.in_ok-lead.ensures.taken in
+    let low : 0xD800 ≤ unit_value unit.0 = omega (arith, unit.2, c.if-lead-lt55296.false) in
+    let some : c.take_code_unit.new.p.cur ≢ 0 = λ e. omega (arith, e, c.if-p-ne92.false) in
+    no_pair unit.0 _ unit.1 (low, omega (arith, unit.2, c.if-lead-gt56319.false)) unit.3
+    (no_letter (rw (c.next.ensures.taken some, c.if-p-ne92.false) refl)
+    (remaining_stop is_letter_u c.next.new.self.cur c.next.new.i refl (ne_eqb _ 117 c.if-p-ne117.true)))
+
+pub returns-in_err-trail-clause-breaks : goal.returns-in_err-trail-clause-breaks
+returns-in_err-trail-clause-breaks c none =
+    let unit = c.in_ok-lead.ensures.taken in
+    let low : 0xD800 ≤ unit_value unit.0 = omega (arith, unit.2, c.if-lead-lt55296.false) in
+    let some : c.take_code_unit.new.p.cur ≢ 0 = λ e. omega (arith, e, c.if-p-ne92.false) in
+    let more : c.next.new.self.cur ≢ 0 = λ e. omega (arith, e, c.if-p-ne117.false) in
+    no_pair unit.0 _ unit.1 (low, omega (arith, unit.2, c.if-lead-gt56319.false)) unit.3
+    (no_second _ (rw (c.next.ensures.taken some, c.next-2.ensures.taken more, c.if-p-ne92.false, c.if-p-ne117.false) refl)
+    (c.in_err-trail.ensures.breaks refl))
+
+pub returns-then-trail-lt56320-clause-breaks : goal.returns-then-trail-lt56320-clause-breaks
+returns-then-trail-lt56320-clause-breaks c none =
+    let unit = c.in_ok-lead.ensures.taken in
+    let trail = c.in_ok-trail.ensures.taken in
+    let low : 0xD800 ≤ unit_value unit.0 = omega (arith, unit.2, c.if-lead-lt55296.false) in
+    let some : c.take_code_unit.new.p.cur ≢ 0 = λ e. omega (arith, e, c.if-p-ne92.false) in
+    let more : c.next.new.self.cur ≢ 0 = λ e. omega (arith, e, c.if-p-ne117.false) in
+    no_pair unit.0 _ unit.1 (low, omega (arith, unit.2, c.if-lead-gt56319.false)) unit.3
+    (no_trailing trail.0 trail.1 (λ trails. elim c.then-trail-lt56320.branch [
+      | then-trail-lt56320-via-then-trail-lt56320 w ↦ omega (arith, trail.2, trails.0, w.if-trail-lt56320.true)
+      | then-trail-lt56320-via-else-trail-lt56320+then-trail-gt57343 w ↦ omega (arith, trail.2, trails.1, w.if-trail-gt57343.true)
+    ]) (rw (c.next.ensures.taken some, c.next-2.ensures.taken more, c.if-p-ne92.false, c.if-p-ne117.false, trail.3) refl))
