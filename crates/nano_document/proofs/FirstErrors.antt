@@ -33,8 +33,8 @@ module _ {V : Type 0} (S : List Token → V → Type 0) {bytes : List ℕ} {star
 
   module _ {buffered : Type 0} {now : Position Token} (next : TookNext Cut buffered start now) where
     in_text : (here end : Position Token) (e : Report) (reason : Reason Cut here.at)
-        → here.at.text ≡ text_at here.place here.input → Moved now here → StandsAt Cut here end reason
-        → IsMadeAt end.place e → StandsInText Cut S bytes reason e
+        → here.at.text ≡ text_at here.place here.input → Moved now here → StandsAt Cut Breaks here end reason
+        → IsMadeAt end.place e → StandsInText Cut Breaks S bytes reason e
     in_text here end e wrong text moved at made =
         b.before here e.line e.col text (moves_append next.place moved) (made.1 ∙ at.0) (made.2 ∙ at.1)
     in_text here end e (uncut none) text moved at made =
@@ -64,8 +64,8 @@ module _ {V : Type 0} (S : List Token → V → Type 0) {bytes : List ℕ} {star
 -- ---- of the whole input
 
 module _ {V : Type 0} (S : List Token → V → Type 0) (bytes : List ℕ) {e f : Report} (is : IsValueError e f) where
-  stands_too : (here : At Token) (reason : Reason Cut here) → StandsInText Cut S bytes reason e
-      → StandsInText Cut S bytes reason f
+  stands_too : (here : At Token) (reason : Reason Cut here) → StandsInText Cut Breaks S bytes reason e
+      → StandsInText Cut Breaks S bytes reason f
   stands_too here wrong at =
       subst (λ (l : ℕ). StandsBefore (chars bytes) here.text l f.col) (sym is.line)
       (subst (λ (k : ℕ). StandsBefore (chars bytes) here.text e.line k) (sym is.col) at)
@@ -95,7 +95,7 @@ module _ {V : Type 0} (S : List Token → V → Type 0) (bytes : List ℕ) {e f 
 
 -- where a value decodes, and more comes after it
 pub whole_past : {V : Type 0} {S : List Token → V → Type 0} {bytes : List ℕ} {e : Report}
-    → (e.memory ≡ false → e.message ≡ end_message) → ReadsNoWhole Cut S bytes last e
+    → (e.memory ≡ false → e.message ≡ end_message) → ReadsNoWhole Cut Breaks S bytes last e
     → WholeFailsFirst S bytes e
 whole_past says h = record { none = h; first = λ known other. absurd (other (says known)) }
 

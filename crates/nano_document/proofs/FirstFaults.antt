@@ -65,7 +65,7 @@ module _ {V : Type 0} (encodes : List Token → V → Type 0) where
 
   -- where the pending token alone encodes a value, no token can be cut after it
   pub wrong_after : {start end : Position Token} (v : V) → encodes (start.at.token ∷ []) v
-      → GoesWrong Cut encodes start end → GoesWrongFirst encodes start end
+      → GoesWrong Cut Breaks encodes start end → GoesWrongFirst encodes start end
   wrong_after {start} v e h = record {
     wrong = h;
     before = only_pending start.at h.here.at v e h.fault.tokens h.fault.taken h.reason h.fault.none;
@@ -170,7 +170,7 @@ unmoved h = λ i. position (h.0 i) (h.1 i)
 
 -- a token that stands for itself is pending, and no token can be cut after it
 pub none_after_token : (t : Token) {start end : Position Token} {e : Report} → start.at.token ≡ t
-    → Fails (GoesWrong Cut (AreTokens (t ∷ [])) start end) start end e
+    → Fails (GoesWrong Cut Breaks (AreTokens (t ∷ [])) start end) start end e
     → Fails (GoesWrongFirst (AreTokens (t ∷ [])) start end) start end e
 none_after_token t is h =
     fails_as (wrong_after (AreTokens (t ∷ [])) tt (ap (λ (x : Token). x ∷ []) is)) h
@@ -178,7 +178,7 @@ none_after_token t is h =
 -- it is not taken: another one is pending, or no token can be cut after it
 pub not_taken : (t : Token) → ((u : Token) → (u ≡ t) ⊎ (u ≢ t)) → {start end : Position Token} {e : Report}
     → start.at.text ≡ text_at start.place start.input → ((start.at.token ≡ t → ⊥) → end ≡ start)
-    → Fails (GoesWrong Cut (AreTokens (t ∷ [])) start end) start end e
+    → Fails (GoesWrong Cut Breaks (AreTokens (t ∷ [])) start end) start end e
     → Fails (GoesWrongFirst (AreTokens (t ∷ [])) start end) start end e
 not_taken t decide {start} {end} text same h =
     let Alone = AreTokens (t ∷ []) in

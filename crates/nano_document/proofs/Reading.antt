@@ -95,7 +95,7 @@ first_at levels n is place {start} same h =
 -- where no token can be cut after a token that is all of its content
 pub none_after : (levels n : ℕ) → levels ≡ suc n → (place : ℕ) → {start end : Position Token} {e : Report}
     → kind start.at.token ≡ place → (m : Meaning) → (content_at n place).encodes (start.at.token ∷ []) m
-    → ReadsNone Cut (content_at n place).encodes start end e
+    → ReadsNone Cut Breaks (content_at n place).encodes start end e
     → Fails (GoesWrongFirst (Encodes levels) start end) start end e
 none_after levels n is place same m f h =
     first_at levels n is place same (fails_as (wrong_after (content_at n place).encodes m f) h)

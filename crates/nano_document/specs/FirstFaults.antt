@@ -30,7 +30,7 @@ module _ {V : Type 0} (encodes : List Token → V → Type 0) where
 
   -- the value goes wrong there, and can begin with what stands before that
   pub record GoesWrongFirst (start end : Position Token) : Type 0 where
-    pub wrong : GoesWrong Cut encodes start end
+    pub wrong : GoesWrong Cut Breaks encodes start end
     pub before : IsBeginning encodes (before_fault wrong.reason wrong.fault.tokens)
 
   -- a call reads a value by what it means, or finds the first fault
@@ -45,7 +45,7 @@ module _ {V : Type 0} (encodes : List Token → V → Type 0) where
   module _ (bytes : List ℕ) where
     -- the text goes wrong where the error stands, and a value can begin with what stands before that
     pub record TextGoesWrongFirst (e : Report) : Type 0 where
-      pub wrong : TextGoesWrong Cut encodes bytes e
+      pub wrong : TextGoesWrong Cut Breaks encodes bytes e
       pub before : IsBeginning encodes (before_fault wrong.reason wrong.fault.tokens)
 
     -- the error is the first one of the text: no token begins it, or it goes wrong there
@@ -59,13 +59,13 @@ module _ {V : Type 0} (encodes : List Token → V → Type 0) where
 
     -- no value is encoded at the beginning of the text, and the error is the first one
     pub record FailsFirst (e : Report) : Type 0 where
-      pub none : ReadsNoText Cut encodes bytes e
+      pub none : ReadsNoText Cut Breaks encodes bytes e
       pub first : e.memory ≡ false → IsFirstError e
 
     -- the whole input encodes no value. The error is the first one, unless a value decodes and more
     -- comes after it
     pub record WholeFailsFirst (e : Report) : Type 0 where
-      pub none : ReadsNoWhole Cut encodes bytes last e
+      pub none : ReadsNoWhole Cut Breaks encodes bytes last e
       pub first : e.memory ≡ false → e.message ≢ end_message → IsFirstError e
 
     module _ {A : Type 0} (means : A → V) where

@@ -54,9 +54,9 @@ module _ {T : Type 0} (alias own : List ℕ) (shape : Shape T) where
     -- ---- with a token pending
 
     module _ (prefix : List T) {start end : Position T} where
-      pub no_field_under : {e : Report}
-          → ReadsNone cut (FieldTokens prefix n shape.takes) start end e
-          → ReadsNone cut (FieldTokens prefix name Also.takes) start end e
+      pub no_field_under : {e : Report} {breaks : List ℕ → List ℕ → Type 0}
+          → ReadsNone cut breaks (FieldTokens prefix n shape.takes) start end e
+          → ReadsNone cut breaks (FieldTokens prefix name Also.takes) start end e
       no_field_under h =
           none_as cut (FieldTokens prefix name Also.takes) (FieldTokens prefix n shape.takes)
           (λ ts us e. (us, (e.0, taken_under us e.1))) h
@@ -84,9 +84,9 @@ module _ {T : Type 0} (alias own : List ℕ) (shape : Shape T) where
             unknown = h.unknown;
           }
 
-          pub looked_up_none_under : {e : Report}
-              → LooksUpNone cut prefix n shape before after same start end e
-              → LooksUpNone cut prefix name Also (λ fs. before (Own fs)) (λ fs. after (Own fs)) same
+          pub looked_up_none_under : {e : Report} {breaks : List ℕ → List ℕ → Type 0}
+              → LooksUpNone cut breaks prefix n shape before after same start end e
+              → LooksUpNone cut breaks prefix name Also (λ fs. before (Own fs)) (λ fs. after (Own fs)) same
               start end e
           looked_up_none_under h = record {
             known = known_as known name n is ∙ h.known;

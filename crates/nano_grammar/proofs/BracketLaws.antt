@@ -7,11 +7,11 @@ use Rattle.std.proofs.lemmas.List.{append_cancel_left}
 use Rattle.std.proofs.lemmas.List.Sums.{sum_by_push}
 use Rattle.nano_text.specs.Place.{text_at}
 use Rattle.nano_text.proofs.LaneMasks.{all_append, all_split}
-use Rattle.nano_text.proofs.PlaceLaws.{moves_advance}
 use Rattle.nano_grammar.specs.Tokens.{At, Leaves}
 use Rattle.nano_grammar.specs.Brackets.{IsBracketed, Brackets}
 use Rattle.nano_grammar.specs.Faults.{NothingCut, wrong, uncut}
 use Rattle.nano_grammar.specs.Outcomes.{Position, Moved, GoesWrong}
+use Rattle.nano_grammar.proofs.FaultLaws.{broken_there}
 use Rattle.nano_grammar.proofs.TokensLaws.{leaves_append, tokens_left, cut_shorter, text_lt}
 use Rattle.nano_grammar.proofs.TokensLaws.{token_shorter}
 use Rattle.nano_grammar.proofs.ItemLaws.{append_meets}
@@ -218,10 +218,10 @@ module _ {T : Type 0} {cut : List ℕ → T → List ℕ → Type 0} {opens clos
             (λ x. later.1.0 (same ∙ x), (cs, rest))
 
   -- no brackets are closed where the end is pending
-  pub end_in_brackets : (start here : Position T) (depth : ℕ) → Counting start.at here.at depth
+  pub end_in_brackets : {breaks : List ℕ → List ℕ → Type 0} (start here : Position T) (depth : ℕ) → Counting start.at here.at depth
       → 0 < depth → known.is_end here.at.token ≡ true
       → here.at.text ≡ text_at here.place here.input → Moved start here
-      → GoesWrong cut (Brackets opens closes end) start here
+      → GoesWrong cut breaks (Brackets opens closes end) start here
   end_in_brackets start here depth h some is text moved = record {
     here = here;
     text = text;
@@ -238,11 +238,12 @@ module _ {T : Type 0} {cut : List ℕ → T → List ℕ → Type 0} {opens clos
   }
 
   -- and where no token is cut after the pending one
-  pub uncut_in_brackets : (start here there : Position T) (depth : ℕ)
+  pub uncut_in_brackets : {breaks : List ℕ → List ℕ → Type 0} (start here there : Position T) (depth : ℕ)
       → Counting start.at here.at depth → 0 < depth → NothingCut cut here.at.text
+      → breaks here.at.text (text_at there.place there.input)
       → here.at.text ≡ text_at here.place here.input → Moved start here → Moved here there
-      → GoesWrong cut (Brackets opens closes end) start there
-  uncut_in_brackets start here there depth h some none text moved further = record {
+      → GoesWrong cut breaks (Brackets opens closes end) start there
+  uncut_in_brackets start here there depth h some none broken text moved further = record {
     here = here;
     text = text;
     moved = moved;
@@ -254,7 +255,7 @@ module _ {T : Type 0} {cut : List ℕ → T → List ℕ → Type 0} {opens clos
           let k = (is_still_open start.at here.at depth h some us left more next b e).1 in
           nothing_follows k.0 left next (k.1 ∙ follows);
     };
-    stands = moves_advance further;
+    stands = broken_there broken further;
   }
 
   -- ---- capacity

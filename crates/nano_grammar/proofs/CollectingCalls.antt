@@ -98,7 +98,7 @@ module _ {T : Type 0} {c : Cutting T} {g : Grammar T} (r : CutLaws c g)
   -- what an error at a comma reports
   abbrev NoComma : Position T → Position T → Type 0
   NoComma here end = (here.at.token ≢ punctuation.closing)
-      × GoesWrong c.cut (AreTokens (punctuation.comma ∷ [])) here end
+      × GoesWrong c.cut c.breaks (AreTokens (punctuation.comma ∷ [])) here end
 
   module _ {V : Type 0} {P : V → Type 0} {S : List T → V → Type 0} (s : IsEncoding g P S) where
     -- a turn takes a token
@@ -165,7 +165,7 @@ module _ {T : Type 0} {c : Cutting T} {g : Grammar T} (r : CutLaws c g)
         }
 
         pub opening_not : {start end : Position T} {e : Report}
-            → ReadsNone c.cut (AreTokens (punctuation.opening ∷ [])) start end e → ReadsNone c.cut All start end e
+            → ReadsNone c.cut c.breaks (AreTokens (punctuation.opening ∷ [])) start end e → ReadsNone c.cut c.breaks All start end e
         opening_not {start} h =
             let Opening = AreTokens (punctuation.opening ∷ []) in
             none_first c.cut All Opening
@@ -173,7 +173,7 @@ module _ {T : Type 0} {c : Cutting T} {g : Grammar T} (r : CutLaws c g)
             (read_opening_leads r punctuation are (as_item s punctuation) start.at.token)) h
 
         pub item_not : {start here end : Position T} {x : C} {e : Report} → Filled holds S start here x
-            → here.at.token ≢ punctuation.closing → ReadsNone c.cut S here end e → ReadsNone c.cut All start end e
+            → here.at.token ≢ punctuation.closing → ReadsNone c.cut c.breaks S here end e → ReadsNone c.cut c.breaks All start end e
         item_not {start} {here} h other bad =
             let read = h.read.read in
             let ts = read.so_far.prefix in
@@ -183,7 +183,7 @@ module _ {T : Type 0} {c : Cutting T} {g : Grammar T} (r : CutLaws c g)
             read.so_far.taken h.place bad
 
         pub comma_not : {start here mid end : Position T} {x : C} {v : V} {e : Report} → Filled holds S start here x
-            → Read c.cut S here mid v → Fails (NoComma mid end) mid end e → ReadsNone c.cut All start end e
+            → Read c.cut S here mid v → Fails (NoComma mid end) mid end e → ReadsNone c.cut c.breaks All start end e
         comma_not {start} {here} {mid} {v = v} h item bad =
             let moved = moves_append h.place item.place in
             fails_after (λ none. let k = comma_after h item in
@@ -193,7 +193,7 @@ module _ {T : Type 0} {c : Cutting T} {g : Grammar T} (r : CutLaws c g)
 
         pub closing_not : {start here end : Position T} {x : C} {e : Report} → Filled holds S start here x
             → here.at.token ≡ punctuation.closing
-            → ReadsNone c.cut (AreTokens (punctuation.closing ∷ [])) here end e → ReadsNone c.cut All start end e
+            → ReadsNone c.cut c.breaks (AreTokens (punctuation.closing ∷ [])) here end e → ReadsNone c.cut c.breaks All start end e
         closing_not {start} {here} h is bad =
             let read = h.read.read in
             let ts = read.so_far.prefix in
@@ -221,7 +221,7 @@ module _ {T : Type 0} {c : Cutting T} {g : Grammar T} (r : CutLaws c g)
             (record { decodes = array; place = moves_append h.place bracket.place })
 
         pub array_opening_not : {start end : Position T} {e : Report}
-            → ReadsNone c.cut (AreTokens (punctuation.opening ∷ [])) start end e → ReadsNone c.cut Array start end e
+            → ReadsNone c.cut c.breaks (AreTokens (punctuation.opening ∷ [])) start end e → ReadsNone c.cut c.breaks Array start end e
         array_opening_not {start} h =
             let Opening = AreTokens (punctuation.opening ∷ []) in
             none_first c.cut Array Opening
@@ -230,7 +230,7 @@ module _ {T : Type 0} {c : Cutting T} {g : Grammar T} (r : CutLaws c g)
 
         pub array_item_not : {start here end : Position T} {x : C} {e : Report} → Filled holds S start here x
             → ((vs : List V) → holds x vs → length vs < count)
-            → ReadsNone c.cut S here end e → ReadsNone c.cut Array start end e
+            → ReadsNone c.cut c.breaks S here end e → ReadsNone c.cut c.breaks Array start end e
         array_item_not {start} {here} h few bad =
             let read = h.read.read in
             let ts = read.so_far.prefix in
@@ -240,7 +240,7 @@ module _ {T : Type 0} {c : Cutting T} {g : Grammar T} (r : CutLaws c g)
             read.so_far.taken h.place bad
 
         pub array_comma_not : {start here mid end : Position T} {x : C} {v : V} {e : Report} → Filled holds S start here x
-            → Read c.cut S here mid v → Fails (NoComma mid end) mid end e → ReadsNone c.cut Array start end e
+            → Read c.cut S here mid v → Fails (NoComma mid end) mid end e → ReadsNone c.cut c.breaks Array start end e
         array_comma_not {start} {here} {mid} h item bad =
             let moved = moves_append h.place item.place in
             fails_after (λ none. let k = comma_after h item in
@@ -250,7 +250,7 @@ module _ {T : Type 0} {c : Cutting T} {g : Grammar T} (r : CutLaws c g)
 
         pub array_closing_not : {start here end : Position T} {x : C} {e : Report} → Filled holds S start here x
             → ((vs : List V) → holds x vs → length vs ≡ count)
-            → ReadsNone c.cut (AreTokens (punctuation.closing ∷ [])) here end e → ReadsNone c.cut Array start end e
+            → ReadsNone c.cut c.breaks (AreTokens (punctuation.closing ∷ [])) here end e → ReadsNone c.cut c.breaks Array start end e
         array_closing_not {start} {here} h full bad =
             let read = h.read.read in
             let ts = read.so_far.prefix in

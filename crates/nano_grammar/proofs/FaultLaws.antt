@@ -11,7 +11,7 @@ use Rattle.nano_grammar.specs.Faults.{NothingCut, AreTokens, Reason, wrong, uncu
 use Rattle.nano_grammar.specs.Faults.{NoneBegins}
 use Rattle.nano_grammar.specs.Promises.{FaultsDecodeToNothing, NothingGoesPastFaults}
 use Rattle.nano_grammar.specs.Outcomes.{Position, Moved, Report, Fails, GoesWrong}
-use Rattle.nano_grammar.specs.Outcomes.{ReadsNone, StandsAt, given_up}
+use Rattle.nano_grammar.specs.Outcomes.{ReadsNone, StandsAt, StandsBroken, Uncut, given_up}
 use Rattle.nano_grammar.proofs.TokensLaws.{leaves_append, meets}
 
 -- ==== lists of tokens
@@ -92,9 +92,9 @@ module _ {T V W : Type 0} (cut : List ℕ → T → List ℕ → Type 0) (whole 
   }
 
   -- where a reader goes wrong at a part, it goes wrong at the whole
-  pub wrong_in : (ts : List T) {start mid end : Position T} → LeadsTo whole part ts mid.at.token
-      → Leaves cut ts start.at mid.at → Moved start mid → GoesWrong cut part mid end
-      → GoesWrong cut whole start end
+  pub wrong_in : (ts : List T) {start mid end : Position T} {breaks : List ℕ → List ℕ → Type 0} → LeadsTo whole part ts mid.at.token
+      → Leaves cut ts start.at mid.at → Moved start mid → GoesWrong cut breaks part mid end
+      → GoesWrong cut breaks whole start end
   wrong_in ts {start} {mid} leads l moved h = record {
     here = h.here;
     text = h.text;
@@ -104,8 +104,8 @@ module _ {T V W : Type 0} (cut : List ℕ → T → List ℕ → Type 0) (whole 
     stands = h.stands;
   }
 
-  pub wrong_as : {start end : Position T} → Encodes whole part → GoesWrong cut part start end
-      → GoesWrong cut whole start end
+  pub wrong_as : {start end : Position T} {breaks : List ℕ → List ℕ → Type 0} → Encodes whole part → GoesWrong cut breaks part start end
+      → GoesWrong cut breaks whole start end
   wrong_as {start} into h = record {
     here = h.here;
     text = h.text;
@@ -113,6 +113,33 @@ module _ {T V W : Type 0} (cut : List ℕ → T → List ℕ → Type 0) (whole 
     reason = h.reason;
     fault = fault_as start.at h.here.at h.reason into h.fault;
     stands = h.stands;
+  }
+
+-- ==== where a text breaks
+
+module _ {T : Type 0} {breaks : List ℕ → List ℕ → Type 0} where
+  -- a reader stands there that stopped there
+  pub broken_there : {here there : Position T} → breaks here.at.text (text_at there.place there.input)
+      → Moved here there → StandsBroken breaks here there
+  broken_there {there = there} broken moved = record {
+    stop = there.place;
+    input = there.input;
+    broken = broken;
+    moved = moved;
+    line = refl;
+    col = refl;
+  }
+
+  -- and stands there still once it gives up
+  pub broken_ended : {here mid : Position T} (last : At T) → StandsBroken breaks here mid
+      → StandsBroken breaks here (given_up last mid)
+  broken_ended last h = record {
+    stop = h.stop;
+    input = h.input;
+    broken = h.broken;
+    moved = h.moved;
+    line = h.line;
+    col = h.col;
   }
 
 -- ==== the pending token
@@ -153,8 +180,8 @@ module _ {T V : Type 0} (cut : List ℕ → T → List ℕ → Type 0) (encodes 
         nothing_left us left next (rest ∙ follows)
 
   -- a reader at that token
-  pub goes_wrong : (p : Position T) → p.at.text ≡ text_at p.place p.input → ((v : V) → encodes [] v → ⊥)
-      → ((ts : List T) (v : V) → encodes (p.at.token ∷ ts) v → ⊥) → GoesWrong cut encodes p p
+  pub goes_wrong : {breaks : List ℕ → List ℕ → Type 0} (p : Position T) → p.at.text ≡ text_at p.place p.input → ((v : V) → encodes [] v → ⊥)
+      → ((ts : List T) (v : V) → encodes (p.at.token ∷ ts) v → ⊥) → GoesWrong cut breaks encodes p p
   goes_wrong p text empty other = record {
     here = p;
     text = text;
@@ -165,35 +192,36 @@ module _ {T V : Type 0} (cut : List ℕ → T → List ℕ → Type 0) (encodes 
   }
 
   -- a call that could not take the next one
-  pub stopped_here : {start end : Position T} {e : Report}
+  pub stopped_here : {start end : Position T} {e : Report} {breaks : List ℕ → List ℕ → Type 0}
       → start.at.text ≡ text_at start.place start.input → ((v : V) → encodes [] v → ⊥)
-      → Fails (NothingCut cut start.at.text) start end e → ReadsNone cut encodes start end e
+      → Fails (Uncut cut breaks start end) start end e → ReadsNone cut breaks encodes start end e
   stopped_here {start = start} text empty h = record {
     rejected = λ known.
-        let none = h.rejected known in
+        let stopped = h.rejected known in
         record {
           here = start;
           text = text;
           moved = moves_none start.place start.input;
-          reason = uncut none;
-          fault = uncut_token start.at none empty;
-          stands = h.place;
+          reason = uncut stopped.none;
+          fault = uncut_token start.at stopped.none empty;
+          stands = stopped.stands;
         };
     made = h.made;
     place = h.place;
   }
 
   -- a reader that gives up leaves the line and the column
-  stands_ended : (last : At T) (here mid : Position T) (reason : Reason cut here.at)
-      → StandsAt cut here mid reason → StandsAt cut here (given_up last mid) reason
-  stands_ended last here mid wrong h = h
-  stands_ended last here mid (uncut none) h =
-      advances_ended (record mid.place { cur = 0 }) h refl refl (remaining_end mid.input)
+  stands_ended : (breaks : List ℕ → List ℕ → Type 0) (last : At T) (here mid : Position T)
+      (reason : Reason cut here.at) → StandsAt cut breaks here mid reason
+      → StandsAt cut breaks here (given_up last mid) reason
+  stands_ended breaks last here mid wrong h = h
+  stands_ended breaks last here mid (uncut none) h = broken_ended last h
 
-  pub none_ended : {start mid end : Position T} {e : Report} (last : At T) → end ≡ given_up last mid
-      → ReadsNone cut encodes start mid e → ReadsNone cut encodes start end e
-  none_ended {start} {mid} {e = e} last is h =
-      subst (λ (p : Position T). ReadsNone cut encodes start p e) (sym is) (record {
+  pub none_ended : {start mid end : Position T} {e : Report} {breaks : List ℕ → List ℕ → Type 0} (last : At T)
+      → end ≡ given_up last mid → ReadsNone cut breaks encodes start mid e
+      → ReadsNone cut breaks encodes start end e
+  none_ended {start} {mid} {e = e} {breaks} last is h =
+      subst (λ (p : Position T). ReadsNone cut breaks encodes start p e) (sym is) (record {
         rejected = λ known.
             let f = h.rejected known in
             record {
@@ -202,7 +230,7 @@ module _ {T V : Type 0} (cut : List ℕ → T → List ℕ → Type 0) (encodes 
               moved = f.moved;
               reason = f.reason;
               fault = f.fault;
-              stands = stands_ended last f.here mid f.reason f.stands;
+              stands = stands_ended breaks last f.here mid f.reason f.stands;
             };
         made = h.made;
         place = advances_ended (record mid.place { cur = 0 }) h.place refl refl (remaining_end mid.input);

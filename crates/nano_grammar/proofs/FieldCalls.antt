@@ -34,8 +34,8 @@ module _ {T : Type 0} (cut : List ℕ → T → List ℕ → Type 0) where
     place = h.place;
   }
 
-  pub not_at_once : {A : Type 0} {S : List T → A → Type 0} {start end : Position T} {e : Report}
-      → ReadsNone cut S start end e → ReadsNone cut (EncodedAfter [] S) start end e
+  pub not_at_once : {A : Type 0} {S : List T → A → Type 0} {start end : Position T} {e : Report} {breaks : List ℕ → List ℕ → Type 0}
+      → ReadsNone cut breaks S start end e → ReadsNone cut breaks (EncodedAfter [] S) start end e
   not_at_once {S = S} {start} h =
       none_as cut (EncodedAfter [] S) S (λ us v e. (v, subst (λ (ts : List T). S ts v) (sym e.1) e.2)) h
 
@@ -62,9 +62,9 @@ module _ {T : Type 0} (cut : List ℕ → T → List ℕ → Type 0) where
           place = h.place;
         }
 
-    pub last_not : {S : List T → Meaning → Type 0} {start end : Position T} {e : Report}
-        → ReadsNone cut (EncodedAfter prefix S) start end e
-        → ReadsNone cut (FieldTokens prefix name (λ _ us. (y : Meaning) × S us y)) start end e
+    pub last_not : {S : List T → Meaning → Type 0} {start end : Position T} {e : Report} {breaks : List ℕ → List ℕ → Type 0}
+        → ReadsNone cut breaks (EncodedAfter prefix S) start end e
+        → ReadsNone cut breaks (FieldTokens prefix name (λ _ us. (y : Meaning) × S us y)) start end e
     last_not {S = S} h =
         none_as cut (FieldTokens prefix name (λ _ us. (y : Meaning) × S us y)) (EncodedAfter prefix S)
         (λ ts us e. (e.1.0, (us, e.0, e.1.1))) h
@@ -76,9 +76,9 @@ module _ {T : Type 0} (cut : List ℕ → T → List ℕ → Type 0) where
           → LooksUp cut prefix name shape before after same start end true
       looked_up is h = record { known_is = sym is; read = λ _. h; unknown = λ e. never refl e }
 
-      pub looked_up_none : {e : Report} → shape.knows name ≡ true
-          → ReadsNone cut (FieldTokens prefix name shape.takes) start end e
-          → LooksUpNone cut prefix name shape before after same start end e
+      pub looked_up_none : {e : Report} {breaks : List ℕ → List ℕ → Type 0} → shape.knows name ≡ true
+          → ReadsNone cut breaks (FieldTokens prefix name shape.takes) start end e
+          → LooksUpNone cut breaks prefix name shape before after same start end e
       looked_up_none is h = record { known = is; none = h }
 
     -- none has it
@@ -100,9 +100,9 @@ module _ {T : Type 0} (cut : List ℕ → T → List ℕ → Type 0) where
         place = h.place;
       }
 
-      pub no_field_as : {e : Report} → ((us : List T) → more name us → takes name us)
-          → ReadsNone cut (FieldTokens prefix name takes) start end e
-          → ReadsNone cut (FieldTokens prefix name more) start end e
+      pub no_field_as : {e : Report} {breaks : List ℕ → List ℕ → Type 0} → ((us : List T) → more name us → takes name us)
+          → ReadsNone cut breaks (FieldTokens prefix name takes) start end e
+          → ReadsNone cut breaks (FieldTokens prefix name more) start end e
       no_field_as only h =
           none_as cut (FieldTokens prefix name more) (FieldTokens prefix name takes)
           (λ ts us e. (us, (e.0, only us e.1))) h
@@ -127,9 +127,9 @@ module _ {T : Type 0} (cut : List ℕ → T → List ℕ → Type 0) where
             place = r.place;
           })
 
-      pub first_not : {A A' C C' : List (Field T) → Type 0} {same other : Type 0} {start end : Position T} {e : Report}
-          → LooksUpNone cut prefix name a A A' other start end e
-          → LooksUpNone cut prefix name (both_fields a b) C C' same start end e
+      pub first_not : {A A' C C' : List (Field T) → Type 0} {same other : Type 0} {start end : Position T} {e : Report} {breaks : List ℕ → List ℕ → Type 0}
+          → LooksUpNone cut breaks prefix name a A A' other start end e
+          → LooksUpNone cut breaks prefix name (both_fields a b) C C' same start end e
       first_not h = record {
         known = or_first (a.knows name) (b.knows name) h.known;
         none = no_field_as a.takes (both_fields a b).takes
@@ -163,15 +163,15 @@ module _ {T : Type 0} (cut : List ℕ → T → List ℕ → Type 0) where
               unknown = λ e. all (k.unknown e);
             }
 
-        pub second_not : {B B' C C' : List (Field T) → Type 0} {other same : Type 0} {e : Report}
-            → LooksUpNone cut prefix name b B B' other mid end e
-            → LooksUpNone cut prefix name (both_fields a b) C C' same start end e
-        second_not {e = e} k =
+        pub second_not : {B B' C C' : List (Field T) → Type 0} {other same : Type 0} {e : Report} {breaks : List ℕ → List ℕ → Type 0}
+            → LooksUpNone cut breaks prefix name b B B' other mid end e
+            → LooksUpNone cut breaks prefix name (both_fields a b) C C' same start end e
+        second_not {e = e} {breaks} k =
             let both = both_fields a b in
             record {
               known = or_second (a.knows name) (b.knows name) unknown ∙ k.known;
               none =
-                  subst (λ (p : Position T). ReadsNone cut (FieldTokens prefix name both.takes) p end e) still
+                  subst (λ (p : Position T). ReadsNone cut breaks (FieldTokens prefix name both.takes) p end e) still
                   (no_field_as b.takes both.takes (λ us t. second_of (a.knows name) (a.takes name us) (b.takes name us) unknown t) k.none);
             }
 
@@ -185,8 +185,8 @@ module _ {T : Type 0} {c : Cutting T} {g : Grammar T} (s : FieldStyle c g) (name
         field_as c.cut prefix name shape.takes (Allowed s shape)
         (λ us t. to_first (shape.knows name) (shape.takes name us) (s.Skipped us) (sym h.known_is) t) (h.read refl)
 
-    pub known_not : {e : Report} → LooksUpNone c.cut prefix name shape A A' same start mid e
-        → ReadsNone c.cut (FieldTokens prefix name (Allowed s shape)) start mid e
+    pub known_not : {e : Report} → LooksUpNone c.cut c.breaks prefix name shape A A' same start mid e
+        → ReadsNone c.cut c.breaks (FieldTokens prefix name (Allowed s shape)) start mid e
     known_not h =
         no_field_as c.cut prefix name shape.takes (Allowed s shape)
         (λ us t. first_of (shape.knows name) (shape.takes name us) (s.Skipped us) h.known t) h.none
@@ -205,12 +205,12 @@ module _ {T : Type 0} {c : Cutting T} {g : Grammar T} (s : FieldStyle c g) (name
     }
 
     pub skipped_not : {e : Report}
-        → ReadsNone c.cut (λ us (x : Unit {0}). s.Skipped us) mid end e
-        → ReadsNone c.cut (FieldTokens [] name (Allowed s shape)) start end e
+        → ReadsNone c.cut c.breaks (λ us (x : Unit {0}). s.Skipped us) mid end e
+        → ReadsNone c.cut c.breaks (FieldTokens [] name (Allowed s shape)) start end e
     skipped_not {e} h =
         let Skipped : List T → Unit {0} → Type 0 = λ us x. s.Skipped us in
         let Value = FieldTokens [] name (Allowed s shape) in
-        subst (λ (p : Position T). ReadsNone c.cut Value p end e) still
+        subst (λ (p : Position T). ReadsNone c.cut c.breaks Value p end e) still
         (none_as c.cut Value Skipped (λ ts us f. (
           tt,
           subst s.Skipped (sym f.0)

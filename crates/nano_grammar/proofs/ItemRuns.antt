@@ -209,8 +209,8 @@ module _ {T : Type 0} {c : Cutting T} {g : Grammar T} (r : CutLaws c g)
         → Filled r punctuation are holds S start here x → Read c.cut S here mid v
         → PutItems c.cut S punctuation.comma holds mid last y z
         → Fails ((last.at.token ≢ punctuation.closing)
-        × GoesWrong c.cut (AreTokens (punctuation.comma ∷ [])) last end) last end e
-        → ReadsNone c.cut (EncodesAll punctuation whole S) start end e
+        × GoesWrong c.cut c.breaks (AreTokens (punctuation.comma ∷ [])) last end) last end e
+        → ReadsNone c.cut c.breaks (EncodesAll punctuation whole S) start end e
     run_comma_not holds whole h item run bad =
         let all = up_to_more run.items (up_to_first h item) run.taken in
         comma_not r punctuation are s is_itself whole all.filled all.read bad

@@ -11,7 +11,7 @@ use Rattle.nano_grammar.proofs.PartReading.{pair_found, first_leads, punctuator_
 use Rattle.nano_text.specs.Place.{text_at}
 use Rattle.nano_text.proofs.PlaceLaws.{moves_append}
 use Rattle.nano_grammar.specs.Scalars.{EncodesOption, EncodesOne, EncodesUnit}
-use Rattle.nano_grammar.specs.Outcomes.{Report, Position, IsMadeAt, NothingCut, Fails, TookNext}
+use Rattle.nano_grammar.specs.Outcomes.{Report, Position, IsMadeAt, Uncut, Fails, TookNext}
 use Rattle.nano_grammar.specs.Outcomes.{Took, Read, ReadsNone, ReadsNoneAndEnds}
 use Rattle.nano_grammar.proofs.TokenCalls.{fails_here, none_in, none_first, none_as}
 use Rattle.nano_grammar.proofs.Reading.{image_spans, image_encodes, one_spans, one_some, one_other}
@@ -38,14 +38,14 @@ module _ {T : Type 0} (c : Cutting T) {A : Type 0} (f : A → Meaning) (carries 
   -- where the pending token is no such value
   pub one_not : {start : Position T} {e : Report} → IsAt start → ((x : A) → carries start.at.token x → P x → ⊥)
       → IsMadeAt start.place e
-      → ReadsNone c.cut (λ ts. IsImage f (EncodesOne carries P ts)) start start e
+      → ReadsNone c.cut c.breaks (λ ts. IsImage f (EncodesOne carries P ts)) start start e
   one_not {start} text other made = none_as c.cut _ (EncodesOne carries P) (image_encodes c (EncodesOne carries P) f)
       (fails_here (goes_wrong c.cut (EncodesOne carries P) start text (one_some c carries P)
       (one_other c carries P start.at.token other)) made)
 
   -- where no token can be cut after it
-  pub one_stopped : {start end : Position T} {e : Report} → IsAt start → Fails (NothingCut c.cut start.at.text) start end e
-      → ReadsNone c.cut (λ ts. IsImage f (EncodesOne carries P ts)) start end e
+  pub one_stopped : {start end : Position T} {e : Report} → IsAt start → Fails (Uncut c.cut c.breaks start end) start end e
+      → ReadsNone c.cut c.breaks (λ ts. IsImage f (EncodesOne carries P ts)) start end e
   one_stopped text h = stopped_here c.cut _ text (λ m x. one_some c carries P x.part x.has) h
 
 -- ---- the token that is nothing
@@ -58,12 +58,12 @@ module _ {T : Type 0} (c : Cutting T) (t : T) where
     place = h.place;
   }
 
-  pub unit_stopped : {start end : Position T} {e : Report} → IsAt start → Fails (NothingCut c.cut start.at.text) start end e
-      → ReadsNone c.cut (EncodesUnit (t ∷ [])) start end e
+  pub unit_stopped : {start end : Position T} {e : Report} → IsAt start → Fails (Uncut c.cut c.breaks start end) start end e
+      → ReadsNone c.cut c.breaks (EncodesUnit (t ∷ [])) start end e
   unit_stopped text h = stopped_here c.cut _ text (λ m x. absurd (cc x.one)) h
 
   pub unit_not : {start : Position T} {e : Report} → IsAt start → start.at.token ≢ t → IsMadeAt start.place e
-      → ReadsNone c.cut (EncodesUnit (t ∷ [])) start start e
+      → ReadsNone c.cut c.breaks (EncodesUnit (t ∷ [])) start start e
   unit_not {start} text other made = fails_here (goes_wrong c.cut _ start text (λ m x. absurd (cc x.one))
       (λ ts m x. let same : start.at.token ≡ t = cc x.one in other same)) made
 
@@ -78,8 +78,8 @@ module _ {T : Type 0} {c : Cutting T} {g : Grammar T} (r : CutLaws c g) where
       place = h.place;
     }
 
-    pub none_stopped : {start end : Position T} {e : Report} → IsAt start → Fails (NothingCut c.cut start.at.text) start end e
-        → ReadsNone c.cut (λ ts. IsImage optional (EncodesOption g.none S ts)) start end e
+    pub none_stopped : {start end : Position T} {e : Report} → IsAt start → Fails (Uncut c.cut c.breaks start end) start end e
+        → ReadsNone c.cut c.breaks (λ ts. IsImage optional (EncodesOption g.none S ts)) start end e
     none_stopped {start = start} text h = stopped_here c.cut _ text (λ m x. option_some r S start.at x.part x.has) h
 
     pub some_read : {start end : Position T} (x : Meaning) → ((ts : List T) (y : Meaning) → S ts y → BeginsValue g ts)
@@ -91,8 +91,8 @@ module _ {T : Type 0} {c : Cutting T} {g : Grammar T} (r : CutLaws c g) where
     }
 
     pub some_not : {start end : Position T} {e : Report} → start.at.token ≢ g.none
-        → ReadsNone c.cut S start end e
-        → ReadsNone c.cut (λ ts. IsImage optional (EncodesOption g.none S ts)) start end e
+        → ReadsNone c.cut c.breaks S start end e
+        → ReadsNone c.cut c.breaks (λ ts. IsImage optional (EncodesOption g.none S ts)) start end e
     some_not {start} other h =
         none_as c.cut _ (EncodesOption g.none S) (image_encodes c (EncodesOption g.none S) optional)
         (none_first c.cut (EncodesOption g.none S) S (some_leads r S start.at start.at.token other) h)
@@ -109,22 +109,22 @@ module _ {T : Type 0} {c : Cutting T} {g : Grammar T} (r : CutLaws c g) where
       place = moves_append key.place (moves_append colon.place value.place);
     }
 
-    pub key_not : {last : At T} {start end : Position T} {e : Report} → ReadsNoneAndEnds c.cut S start end last e
-        → ReadsNone c.cut (EncodedPair punctuator S R) start end e
+    pub key_not : {last : At T} {start end : Position T} {e : Report} → ReadsNoneAndEnds c.cut c.breaks S start end last e
+        → ReadsNone c.cut c.breaks (EncodedPair punctuator S R) start end e
     key_not {start = start} h =
         none_first c.cut (EncodedPair punctuator S R) S (first_leads punctuator S s.none_begins R start.at.token) h.fails
 
     pub colon_not : {start m end : Position T} {x : Meaning} {e : Report} → Read c.cut S start m x
-        → ReadsNone c.cut (AreTokens (punctuator ∷ [])) m end e
-        → ReadsNone c.cut (EncodedPair punctuator S R) start end e
+        → ReadsNone c.cut c.breaks (AreTokens (punctuator ∷ [])) m end e
+        → ReadsNone c.cut c.breaks (EncodedPair punctuator S R) start end e
     colon_not {m = m} {x = x} key h =
         let k = key.decodes in
         none_in c.cut (EncodedPair punctuator S R) (AreTokens (punctuator ∷ [])) k.0
         (punctuator_leads punctuator S s.none_begins R k.0 x k.1 m.at.token) k.2 key.place h
 
     pub value_not : {buffered : Type 0} {last : At T} {start m k end : Position T} {x : Meaning} {e : Report}
-        → Read c.cut S start m x → Took c.cut buffered m k (punctuator ∷ []) → ReadsNoneAndEnds c.cut R k end last e
-        → ReadsNone c.cut (EncodedPair punctuator S R) start end e
+        → Read c.cut S start m x → Took c.cut buffered m k (punctuator ∷ []) → ReadsNoneAndEnds c.cut c.breaks R k end last e
+        → ReadsNone c.cut c.breaks (EncodedPair punctuator S R) start end e
     value_not {start = start} {m} {k} {x = x} key colon h =
         let i = key.decodes in
         none_in c.cut (EncodedPair punctuator S R) R (i.0 ++ punctuator ∷ [])

@@ -5,7 +5,7 @@ use Rattle.nano_text.specs.declared.place.Place.{Place}
 use Rattle.nano_text.specs.Place.{held, tail, text_at, before_nul, beginning, Passes, Advances, Moves}
 use Rattle.nano_text.proofs.PlaceLaws.{passed_same, passes_append, moves_advance, advances_append}
 use Rattle.nano_text.proofs.PlaceLaws.{advances_within}
-use Rattle.nano_grammar.specs.Outcomes.{StandsBefore, StandsFrom}
+use Rattle.nano_grammar.specs.Outcomes.{StandsBefore}
 
 tail_length : (cs : List ℕ) → length (tail cs) ≡ length cs - 1
 tail_length [] = refl
@@ -34,43 +34,5 @@ stands_before {whole} {text} {left} {start} {p} {q} {i} {j} same line column fir
         ap length one,
         tail_length text,
         ap length rest,
-      );
-    })
-
--- and then as far as it went on from there
-pub stands_from : {whole text left : List ℕ} {start p q z : Place} {i j k : Chars} {line column : ℕ}
-    → text ≡ whole → start.line ≡ 0 → start.col ≡ 0
-    → Passes start text p (held i) → held i ≡ tail text → text_at p i ≡ before_nul text
-    → Moves p i q j → left ≡ text_at q j → Advances q j z k → line ≡ z.line → column ≡ z.col
-    → StandsFrom whole left line column
-stands_from {whole} {text} {left} {start} {p} {q} {z} {i} {j} {k} same line column first one rest h is more lines columns =
-    let far = advances_append (moves_advance h) more in
-    let all = passes_append first far.passes in
-    let moved = passed_same beginning start all.taken (sym line) (sym column) in
-    rw (sym same) (record {
-      taken = all.taken;
-      after = held k;
-      split = all.split;
-      lines = lines ∙ (all.line ∙ sym moved.0);
-      columns = columns ∙ (all.col ∙ sym moved.1);
-      least = omega (
-        arith,
-        h.exact,
-        h.within,
-        ap length is,
-        ap length one,
-        tail_length text,
-        ap length rest,
-        ap length more.passes.split,
-        length-append more.passes.taken (held k),
-      );
-      within = omega (
-        arith,
-        length-append all.taken (held k),
-        ap length all.split,
-        tail_length text,
-        ap length one,
-        ap length rest,
-        advances_within far,
       );
     })

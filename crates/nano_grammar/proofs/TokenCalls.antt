@@ -78,19 +78,19 @@ module _ {T : Type 0} where
   module _ {V W : Type 0} (cut : List ℕ → T → List ℕ → Type 0) (whole : List T → V → Type 0)
       (part : List T → W → Type 0) where
     -- where no part is read after these tokens, no whole is
-    pub none_in : (ts : List T) {start mid end : Position T} {e : Report}
+    pub none_in : (ts : List T) {start mid end : Position T} {e : Report} {breaks : List ℕ → List ℕ → Type 0}
         → LeadsTo whole part ts mid.at.token → Leaves cut ts start.at mid.at → Moved start mid
-        → ReadsNone cut part mid end e → ReadsNone cut whole start end e
+        → ReadsNone cut breaks part mid end e → ReadsNone cut breaks whole start end e
     none_in ts leads l moved h = fails_after (wrong_in cut whole part ts leads l moved) moved h
 
     -- where no first part is read
-    pub none_first : {start end : Position T} {e : Report} → LeadsTo whole part [] start.at.token
-        → ReadsNone cut part start end e → ReadsNone cut whole start end e
+    pub none_first : {start end : Position T} {e : Report} {breaks : List ℕ → List ℕ → Type 0} → LeadsTo whole part [] start.at.token
+        → ReadsNone cut breaks part start end e → ReadsNone cut breaks whole start end e
     none_first {start = start} leads h =
         fails_as (wrong_in cut whole part [] leads refl (moves_none start.place start.input)) h
 
-    pub none_as : {start end : Position T} {e : Report} → Encodes whole part
-        → ReadsNone cut part start end e → ReadsNone cut whole start end e
+    pub none_as : {start end : Position T} {e : Report} {breaks : List ℕ → List ℕ → Type 0} → Encodes whole part
+        → ReadsNone cut breaks part start end e → ReadsNone cut breaks whole start end e
     none_as into h = fails_as (wrong_as cut whole part into) h
 
   -- ---- the pending token, and the next one
@@ -145,15 +145,15 @@ module _ {T : Type 0} where
   -- ---- values
 
   -- on an error the reader gives up
-  pub ended_read : {V A E : Type 0} (cut : List ℕ → T → List ℕ → Type 0) (encodes : List T → V → Type 0)
+  pub ended_read : {V A E : Type 0} (cut : List ℕ → T → List ℕ → Type 0) (breaks : List ℕ → List ℕ → Type 0) (encodes : List T → V → Type 0)
       (start mid end : Position T) (report : E → Report) (means : A → V) (last : At T)
       (read result : Result A E) → result ≡ read
       → MatchResult read (λ _. end ≡ mid) (λ _. end ≡ given_up last mid)
-      → Reads cut encodes start mid report means read
-      → ReadsOrEnds cut encodes start end report means last result
-  ended_read cut encodes start mid end report means last (Ok x) result same is h =
-      subst (ReadsOrEnds cut encodes start end report means last) (sym same)
+      → Reads cut breaks encodes start mid report means read
+      → ReadsOrEnds cut breaks encodes start end report means last result
+  ended_read cut breaks encodes start mid end report means last (Ok x) result same is h =
+      subst (ReadsOrEnds cut breaks encodes start end report means last) (sym same)
       (subst (λ (p : Position T). Read cut encodes start p (means x)) (sym is) h)
-  ended_read cut encodes start mid end report means last (Err e) result same is h =
-      subst (ReadsOrEnds cut encodes start end report means last) (sym same)
+  ended_read cut breaks encodes start mid end report means last (Err e) result same is h =
+      subst (ReadsOrEnds cut breaks encodes start end report means last) (sym same)
       (record { fails = none_ended cut encodes last is h; ended = ap (λ (p : Position T). p.at) is })

@@ -104,7 +104,7 @@ module _ {T : Type 0} {c : Cutting T} {g : Grammar T} (r : CutLaws c g) (punctua
   -- what an error at a comma reports
   abbrev pub NoComma : Position T → Position T → Type 0
   NoComma here end = (here.at.token ≢ punctuation.closing)
-      × GoesWrong c.cut (AreTokens (punctuation.comma ∷ [])) here end
+      × GoesWrong c.cut c.breaks (AreTokens (punctuation.comma ∷ [])) here end
 
   -- ---- a part, and those after it
 
@@ -119,23 +119,23 @@ module _ {T : Type 0} {c : Cutting T} {g : Grammar T} (r : CutLaws c g) (punctua
     }
 
     pub first_not : {last : At T} {start end : Position T} {e : Report}
-        → ReadsNoneAndEnds c.cut s.encodes start end last e
-        → ReadsNone c.cut (and_then punctuation.comma s t).encodes start end e
+        → ReadsNoneAndEnds c.cut c.breaks s.encodes start end last e
+        → ReadsNone c.cut c.breaks (and_then punctuation.comma s t).encodes start end e
     first_not {start = start} h =
         none_first c.cut (and_then punctuation.comma s t).encodes s.encodes
         (first_part_leads r punctuation are s t start.at.token) h.fails
 
     pub comma_not : {start m end : Position T} {x : Meaning} {e : Report} → Read c.cut s.encodes start m x
         → Fails (NoComma m end) m end e
-        → ReadsNone c.cut (and_then punctuation.comma s t).encodes start end e
+        → ReadsNone c.cut c.breaks (and_then punctuation.comma s t).encodes start end e
     comma_not {m = m} {x = x} first h =
         let i = first.decodes in
         none_in c.cut (and_then punctuation.comma s t).encodes (AreTokens (punctuation.comma ∷ [])) i.0
         (comma_leads r punctuation are s t i.0 x i.1 m.at.token) i.2 first.place (fails_as (λ bad. bad.1) h)
 
     others_wrong : {start m k end : Position T} {x : Meaning} → Read c.cut s.encodes start m x
-        → CommaTaken c.cut punctuation m.at k.at → Moved m k → GoesWrong c.cut t.encodes k end
-        → GoesWrong c.cut (and_then punctuation.comma s t).encodes start end
+        → CommaTaken c.cut punctuation m.at k.at → Moved m k → GoesWrong c.cut c.breaks t.encodes k end
+        → GoesWrong c.cut c.breaks (and_then punctuation.comma s t).encodes start end
     others_wrong {start} {m} {k} {x = x} first (inl l) moved h =
         let i = first.decodes in
         wrong_in c.cut (and_then punctuation.comma s t).encodes t.encodes (i.0 ++ punctuation.comma ∷ [])
@@ -150,8 +150,8 @@ module _ {T : Type 0} {c : Cutting T} {g : Grammar T} (r : CutLaws c g) (punctua
 
     pub others_not : {buffered same : Type 0} {start m k end : Position T} {x : Meaning} {e : Report}
         → Read c.cut s.encodes start m x → TookComma c.cut buffered m k punctuation.comma punctuation.closing same
-        → ReadsNone c.cut t.encodes k end e
-        → ReadsNone c.cut (and_then punctuation.comma s t).encodes start end e
+        → ReadsNone c.cut c.breaks t.encodes k end e
+        → ReadsNone c.cut c.breaks (and_then punctuation.comma s t).encodes start end e
     others_not first comma h =
         fails_after (others_wrong first comma.taken comma.place) (moves_append first.place comma.place) h
 
@@ -168,15 +168,15 @@ module _ {T : Type 0} {c : Cutting T} {g : Grammar T} (r : CutLaws c g) (punctua
     }
 
     pub last_not : {at_end : At T} {start end : Position T} {e : Report}
-        → ReadsNoneAndEnds c.cut s.encodes start end at_end e
-        → ReadsNone c.cut (last_part punctuation are s).encodes start end e
+        → ReadsNoneAndEnds c.cut c.breaks s.encodes start end at_end e
+        → ReadsNone c.cut c.breaks (last_part punctuation are s).encodes start end e
     last_not {start = start} h =
         none_first c.cut (last_part punctuation are s).encodes s.encodes
         (last_leads punctuation are.apart s.encodes s.laws.none_begins start.at.token) h.fails
 
     pub last_comma_not : {start m end : Position T} {x : Meaning} {e : Report} → Read c.cut s.encodes start m x
         → Fails (NoComma m end) m end e
-        → ReadsNone c.cut (last_part punctuation are s).encodes start end e
+        → ReadsNone c.cut c.breaks (last_part punctuation are s).encodes start end e
     last_comma_not {m = m} {x = x} last h =
         let i = last.decodes in
         fails_after (λ bad. wrong_in c.cut (last_part punctuation are s).encodes (AreTokens (punctuation.comma ∷ [])) i.0
@@ -185,8 +185,8 @@ module _ {T : Type 0} {c : Cutting T} {g : Grammar T} (r : CutLaws c g) (punctua
 
     close_wrong : {start m k end : Position T} {x : Meaning} → Read c.cut s.encodes start m x
         → CommaTaken c.cut punctuation m.at k.at → Moved m k
-        → GoesWrong c.cut (AreTokens (punctuation.closing ∷ [])) k end
-        → GoesWrong c.cut (last_part punctuation are s).encodes start end
+        → GoesWrong c.cut c.breaks (AreTokens (punctuation.closing ∷ [])) k end
+        → GoesWrong c.cut c.breaks (last_part punctuation are s).encodes start end
     close_wrong {start} {m} {k} {x = x} last (inl l) moved h =
         let i = last.decodes in
         wrong_in c.cut (last_part punctuation are s).encodes (AreTokens (punctuation.closing ∷ []))
@@ -202,8 +202,8 @@ module _ {T : Type 0} {c : Cutting T} {g : Grammar T} (r : CutLaws c g) (punctua
 
     pub close_not : {buffered same : Type 0} {start m k end : Position T} {x : Meaning} {e : Report}
         → Read c.cut s.encodes start m x → TookComma c.cut buffered m k punctuation.comma punctuation.closing same
-        → ReadsNone c.cut (AreTokens (punctuation.closing ∷ [])) k end e
-        → ReadsNone c.cut (last_part punctuation are s).encodes start end e
+        → ReadsNone c.cut c.breaks (AreTokens (punctuation.closing ∷ [])) k end e
+        → ReadsNone c.cut c.breaks (last_part punctuation are s).encodes start end e
     close_not last comma h =
         fails_after (close_wrong last comma.taken comma.place) (moves_append last.place comma.place) h
 
@@ -218,15 +218,15 @@ module _ {T : Type 0} {c : Cutting T} {g : Grammar T} (r : CutLaws c g) (punctua
     }
 
     pub open_not : {start end : Position T} {e : Report}
-        → ReadsNone c.cut (AreTokens (punctuation.opening ∷ [])) start end e
-        → ReadsNone c.cut (tuple_of punctuation are s).encodes start end e
+        → ReadsNone c.cut c.breaks (AreTokens (punctuation.opening ∷ [])) start end e
+        → ReadsNone c.cut c.breaks (tuple_of punctuation are s).encodes start end e
     open_not {start} h =
         none_first c.cut (tuple_of punctuation are s).encodes (AreTokens (punctuation.opening ∷ []))
         (token_leads punctuation.opening s.encodes start.at.token) h
 
     pub parts_not : {buffered : Type 0} {start m end : Position T} {e : Report}
-        → Took c.cut buffered start m (punctuation.opening ∷ []) → ReadsNone c.cut s.encodes m end e
-        → ReadsNone c.cut (tuple_of punctuation are s).encodes start end e
+        → Took c.cut buffered start m (punctuation.opening ∷ []) → ReadsNone c.cut c.breaks s.encodes m end e
+        → ReadsNone c.cut c.breaks (tuple_of punctuation are s).encodes start end e
     parts_not {m = m} bracket h =
         none_in c.cut (tuple_of punctuation are s).encodes s.encodes (punctuation.opening ∷ [])
         (after_leads punctuation.opening s.encodes m.at.token) bracket.taken bracket.place h

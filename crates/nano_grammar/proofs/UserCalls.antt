@@ -35,7 +35,7 @@ module _ {T : Type 0} {c : Cutting T} {g : Grammar T} (s : FieldStyle c g) (shap
   pub values_not : {e : Report} → end.at.text ≡ text_at end.place end.input
       → HeldFields s shape holds start end
       → Misses (MeansNothing shape holds) end.place e
-      → ReadsNone c.cut (EncodedFields s shape) start end e
+      → ReadsNone c.cut c.breaks (EncodedFields s shape) start end e
   values_not text h bad = record {
     rejected = λ known. record {
       here = end;
@@ -80,7 +80,7 @@ module _ {T : Type 0} {c : Cutting T} {g : Grammar T} (s : VariantStyle c g) whe
         (s.closing, tt, next, more, refl, same.1)
 
     pub content_not : {start end : Position T} {last : At T} {e : Report}
-        → ReadsNoneAndEnds c.cut S start end last e → ReadsNoneAndEnds c.cut (Closed s S) start end last e
+        → ReadsNoneAndEnds c.cut c.breaks S start end last e → ReadsNoneAndEnds c.cut c.breaks (Closed s S) start end last e
     content_not {start} h = record {
       fails = none_first c.cut (Closed s S) S (content_leads start.at.token) h.fails;
       ended = h.ended;
@@ -88,8 +88,8 @@ module _ {T : Type 0} {c : Cutting T} {g : Grammar T} (s : VariantStyle c g) whe
 
     pub closing_not : {P : Meaning → Type 0} {start mid end : Position T} {last : At T} {m : Meaning} {e : Report}
         → IsEncoding g P S → Read c.cut S start mid m
-        → ReadsNoneAndEnds c.cut (AreTokens s.closing) mid end last e
-        → ReadsNoneAndEnds c.cut (Closed s S) start end last e
+        → ReadsNoneAndEnds c.cut c.breaks (AreTokens s.closing) mid end last e
+        → ReadsNoneAndEnds c.cut c.breaks (Closed s S) start end last e
     closing_not {mid = mid} {m = m} laws h bad = record {
       fails = none_in c.cut (Closed s S) (AreTokens s.closing) h.decodes.0
           (closing_leads laws h.decodes.0 m h.decodes.1 mid.at.token) h.decodes.2 h.place bad.fails;
@@ -112,7 +112,7 @@ module _ {T : Type 0} {c : Cutting T} {g : Grammar T} (s : VariantStyle c g) (re
         place = h.place;
       }
 
-      pub first_not : {last : At T} {e : Report} → ReadsNoneAndEnds c.cut (EncodesRest s rest) start end last e
+      pub first_not : {last : At T} {e : Report} → ReadsNoneAndEnds c.cut c.breaks (EncodesRest s rest) start end last e
           → NoChoice s (before rest first others) stood name start end last e
       first_not h = record {
         none = λ from. record {

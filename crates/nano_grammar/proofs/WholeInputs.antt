@@ -1,7 +1,7 @@
 -- What the readers of texts know of a text, and of one that is a whole input.
 use Rattle.std.proofs.Common.{◌≡◌, ◌≢◌, inl, inr, ℕ, ◌<◌, ◌≤◌, Some, None, ◌==◌, Bool, true, false}
 use Rattle.std.proofs.Common.{List, [], ◌∷◌, ◌++◌, length, take, drop, chars, encode_utf8_all, sym}
-use Rattle.std.proofs.Common.{◌∙◌, ap, subst, arith, append-nil, get_or, ◌⊎◌}
+use Rattle.std.proofs.Common.{◌∙◌, ap, subst, arith, append-nil, get_or, refl, ◌⊎◌}
 use Rattle.std.specs.Str.{IsUtf8, NonePass, NoCharPasses}
 use Rattle.std.specs.Bool.{MatchBool}
 use Rattle.std.specs.Str.Pattern.{HasCharAt, FindsChar}
@@ -20,13 +20,14 @@ use Rattle.nano_grammar.specs.Codec.{Grammar, IsEncoding}
 use Rattle.nano_grammar.specs.Outcomes.{HoldsNul, DecodesBefore, WholeDecodesTo, GoesOn}
 use Rattle.nano_grammar.specs.Outcomes.{WholeDecodesToNothing, end_message, Report, Position}
 use Rattle.nano_grammar.specs.Outcomes.{IsMadeAt, Moved, NothingCut, Stops, TookNext, Read, ReadsNone}
-use Rattle.nano_grammar.specs.Outcomes.{IsValueError, StandsAt, StandsBefore, StandsFrom, StandsInText}
+use Rattle.nano_grammar.specs.Outcomes.{IsValueError, StandsAt, StandsBefore, StandsBroken, StandsInText}
+use Rattle.nano_grammar.specs.Outcomes.{BreaksInText, Uncut}
 use Rattle.nano_grammar.specs.Outcomes.{IsNoText, ReadsNoText, ReadsNoWhole}
 use Rattle.nano_grammar.specs.Faults.{Reason, wrong, uncut}
 use Rattle.nano_grammar.proofs.FaultLaws.{nothing_decodes}
 use Rattle.nano_grammar.proofs.EncodingLaws.{textual_scalars, written_is_remaining}
 use Rattle.nano_grammar.proofs.EncodingLaws.{one_text_decodes}
-use Rattle.nano_text.proofs.PlaceLaws.{advances_append, moves_advance, moves_append}
+use Rattle.nano_text.proofs.PlaceLaws.{advances_append, moves_advance, moves_append, moves_none}
 
 -- ---- NUL
 
@@ -162,31 +163,46 @@ pub record Begun {T : Type 0} (bytes : List ℕ) (start : Position T) : Type 0 w
   pub before : (here : Position T) (line column : ℕ) → here.at.text ≡ text_at here.place here.input
       → Moved start here → line ≡ here.place.line → column ≡ here.place.col
       → StandsBefore (chars bytes) here.at.text line column
-  pub from : (here end : Position T) (e : Report) → here.at.text ≡ text_at here.place here.input
-      → Moved start here → Advances here.place here.input end.place end.input → IsMadeAt end.place e
-      → StandsFrom (chars bytes) here.at.text e.line e.col
 
 module _ {T : Type 0} {c : Cutting T} {g : Grammar T} (r : CutLaws c g) {V : Type 0} (S : List T → V → Type 0) where
   -- where no token begins the text, or it goes wrong, nothing decodes
-  pub no_text : {bytes : List ℕ} {e : Report} → IsNoText c.cut S bytes e
+  pub no_text : {bytes : List ℕ} {e : Report} → IsNoText c.cut c.breaks S bytes e
       → TextDecodesToNothing c.cut S (remaining_text bytes)
-  no_text (inl none) v f = none f.0.token f.0.text f.1
+  no_text (inl none) v f = none.0 f.0.token f.0.text f.1
   no_text {bytes} (inr w) v f =
       let same = same_at c.cut r.one_way (remaining_text bytes) f.0 w.first f.1 w.is_first in
       nothing_decodes c.cut S r.one_way w.first w.here w.reason w.fault v
       (subst (λ (s : At T). DecodesTo c.cut S s v) same f.2)
 
-  pub text_rejected : {bytes : List ℕ} {e : Report} → ReadsNoText c.cut S bytes e → e.memory ≡ false
+  pub text_rejected : {bytes : List ℕ} {e : Report} → ReadsNoText c.cut c.breaks S bytes e → e.memory ≡ false
       → TextDecodesToNothing c.cut S (remaining_text bytes)
   text_rejected h known = no_text (h.fault known)
 
 module _ {T : Type 0} {c : Cutting T} {g : Grammar T} (r : CutLaws c g) {V : Type 0} (S : List T → V → Type 0)
     {bytes : List ℕ} {start : Position T} (b : Begun bytes start) where
+  -- where the text after a pending token breaks, it stands in the text
+  breaks_in_text : (here end : Position T) (e : Report) → Moved start here → StandsBroken c.breaks here end
+      → IsMadeAt end.place e → BreaksInText c.cut c.breaks S bytes here.at.text e
+  breaks_in_text here end e moved at made =
+      let stop : Position T = record { at = record { token = here.at.token; text = text_at at.stop at.input }; place = at.stop; input = at.input } in
+      record {
+        left = text_at at.stop at.input;
+        broken = at.broken;
+        stands = b.before stop e.line e.col refl (moves_append moved at.moved) (made.1 ∙ at.line) (made.2 ∙ at.col);
+      }
+
   -- where no token is cut from the text
   pub text_uncut : {last : At T} {full : Type 0} {end : Position T} {e : Report}
-      → Stops last (NothingCut c.cut start.at.text) full start end e → ReadsNoText c.cut S bytes e
+      → Stops last (Uncut c.cut c.breaks start end) full start end e → ReadsNoText c.cut c.breaks S bytes e
   text_uncut {end = end} {e} h = record {
-    fault = λ known. inl (subst (NothingCut c.cut) b.text (h.fails.rejected known));
+    fault = λ known.
+        let uncut = h.fails.rejected known in
+        let moved = moves_none start.place start.input in
+        inl (
+          subst (NothingCut c.cut) b.text uncut.none,
+          subst (λ (t : List ℕ). BreaksInText c.cut c.breaks S bytes t e) b.text
+          (breaks_in_text start end e moved uncut.stands h.fails.made),
+        );
     silent = h.fails.made.0;
     place = b.stands end e h.fails.place h.fails.made;
   }
@@ -200,14 +216,14 @@ module _ {T : Type 0} {c : Cutting T} {g : Grammar T} (r : CutLaws c g) {V : Typ
     text_read {end} h = (now.at, first_cut, (h.decodes.0, end.at, h.decodes.1, h.decodes.2))
 
     in_text : (here end : Position T) (e : Report) (reason : Reason c.cut here.at)
-        → here.at.text ≡ text_at here.place here.input → Moved now here → StandsAt c.cut here end reason
-        → IsMadeAt end.place e → StandsInText c.cut S bytes reason e
+        → here.at.text ≡ text_at here.place here.input → Moved now here → StandsAt c.cut c.breaks here end reason
+        → IsMadeAt end.place e → StandsInText c.cut c.breaks S bytes reason e
     in_text here end e wrong text moved at made =
         b.before here e.line e.col text (moves_append next.place moved) (made.1 ∙ at.0) (made.2 ∙ at.1)
     in_text here end e (uncut none) text moved at made =
-        b.from here end e text (moves_append next.place moved) at made
+        breaks_in_text here end e (moves_append next.place moved) at made
 
-    pub text_not : {end : Position T} {e : Report} → ReadsNone c.cut S now end e → ReadsNoText c.cut S bytes e
+    pub text_not : {end : Position T} {e : Report} → ReadsNone c.cut c.breaks S now end e → ReadsNoText c.cut c.breaks S bytes e
     text_not {end} {e} h = record {
       fault = λ known.
           let f = h.rejected known in
@@ -240,7 +256,7 @@ module _ {T : Type 0} {c : Cutting T} {g : Grammar T} (r : CutLaws c g) {V : Typ
         → end.at.text ≡ text_at end.place end.input
         → Read c.cut S now end v → (end.at.token ≢ last) ⊎ HoldsNul bytes
         → (e.memory ≡ false → e.message ≡ end_message) → IsMadeAt end.place e
-        → ReadsNoWhole c.cut S bytes last e
+        → ReadsNoWhole c.cut c.breaks S bytes last e
     whole_goes_on {end = end} {v} {e} last s text h more says made =
         let on : GoesOn c.cut S last bytes = record { value = v; next = end.at.token; fits = before h; more = more } in
         let moved = moves_append next.place h.place in
@@ -262,19 +278,24 @@ module _ {T : Type 0} {c : Cutting T} {g : Grammar T} (r : CutLaws c g) {V : Typ
 
 -- ---- an error of a text, as that of a value that must be the whole input
 
-module _ {T V : Type 0} (cut : List ℕ → T → List ℕ → Type 0) (S : List T → V → Type 0) (bytes : List ℕ)
-    {e f : Report} (is : IsValueError e f) where
-  stands_too : (here : At T) (reason : Reason cut here) → StandsInText cut S bytes reason e
-      → StandsInText cut S bytes reason f
-  stands_too here wrong at =
-      subst (λ (l : ℕ). StandsBefore (chars bytes) here.text l f.col) (sym is.line)
-      (subst (λ (k : ℕ). StandsBefore (chars bytes) here.text e.line k) (sym is.col) at)
-  stands_too here (uncut none) at =
-      subst (λ (l : ℕ). StandsFrom (chars bytes) here.text l f.col) (sym is.line)
-      (subst (λ (k : ℕ). StandsFrom (chars bytes) here.text e.line k) (sym is.col) at)
+module _ {T V : Type 0} (cut : List ℕ → T → List ℕ → Type 0) (breaks : List ℕ → List ℕ → Type 0)
+    (S : List T → V → Type 0) (bytes : List ℕ) {e f : Report} (is : IsValueError e f) where
+  stands_before_too : (left : List ℕ) → StandsBefore (chars bytes) left e.line e.col
+      → StandsBefore (chars bytes) left f.line f.col
+  stands_before_too left at =
+      subst (λ (l : ℕ). StandsBefore (chars bytes) left l f.col) (sym is.line)
+      (subst (λ (k : ℕ). StandsBefore (chars bytes) left e.line k) (sym is.col) at)
 
-  goes_wrong_too : IsNoText cut S bytes e → IsNoText cut S bytes f
-  goes_wrong_too (inl none) = inl none
+  breaks_too : {text : List ℕ} → BreaksInText cut breaks S bytes text e → BreaksInText cut breaks S bytes text f
+  breaks_too at = record { left = at.left; broken = at.broken; stands = stands_before_too at.left at.stands }
+
+  stands_too : (here : At T) (reason : Reason cut here) → StandsInText cut breaks S bytes reason e
+      → StandsInText cut breaks S bytes reason f
+  stands_too here wrong at = stands_before_too here.text at
+  stands_too here (uncut none) at = breaks_too at
+
+  goes_wrong_too : IsNoText cut breaks S bytes e → IsNoText cut breaks S bytes f
+  goes_wrong_too (inl none) = inl (none.0, breaks_too none.1)
   goes_wrong_too (inr w) = inr (record {
     first = w.first;
     is_first = w.is_first;
@@ -285,8 +306,8 @@ module _ {T V : Type 0} (cut : List ℕ → T → List ℕ → Type 0) (S : List
   })
 
 pub whole_not : {T : Type 0} {c : Cutting T} {g : Grammar T} (r : CutLaws c g) {V : Type 0}
-    {S : List T → V → Type 0} {bytes : List ℕ} {e f : Report} (last : T) → ReadsNoText c.cut S bytes e
-    → IsValueError e f → ReadsNoWhole c.cut S bytes last f
+    {S : List T → V → Type 0} {bytes : List ℕ} {e f : Report} (last : T) → ReadsNoText c.cut c.breaks S bytes e
+    → IsValueError e f → ReadsNoWhole c.cut c.breaks S bytes last f
 whole_not {c = c} r {S = S} {bytes} {e} {f} last h is =
     let none = λ (known : f.memory ≡ false). text_rejected r S h (sym is.memory ∙ known) in
     record {
@@ -296,7 +317,7 @@ whole_not {c = c} r {S = S} {bytes} {e} {f} last h is =
         λ same. absurd (is.apart same),
         λ on. absurd (nothing_goes_on r S last bytes (none known) on),
       );
-      fault = λ known _. goes_wrong_too c.cut S bytes is (h.fault (sym is.memory ∙ known));
+      fault = λ known _. goes_wrong_too c.cut c.breaks S bytes is (h.fault (sym is.memory ∙ known));
       past = λ known same. absurd (is.apart same);
       place =
           subst (λ (l : ℕ). StandsIn (chars bytes) l f.col) (sym is.line)

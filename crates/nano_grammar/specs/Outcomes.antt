@@ -118,13 +118,29 @@ module _ {T : Type 0} where
 
   -- ---- values
 
+  -- the text after the pending token breaks, and a reader stands on the line and column where it
+  -- does: they count all characters before what is left there
+  pub record StandsBroken (breaks : List ℕ → List ℕ → Type 0) (here end : Position T) : Type 0 where
+    pub stop : Place
+    pub input : Chars
+    pub broken : breaks here.at.text (text_at stop input)
+    pub moved : Moves here.place here.input stop input
+    pub line : end.place.line ≡ stop.line
+    pub col : end.place.col ≡ stop.col
+
+  -- no token is cut after the pending one, and the reader stands where that text breaks
+  pub record Uncut (cut : List ℕ → T → List ℕ → Type 0) (breaks : List ℕ → List ℕ → Type 0)
+      (start end : Position T) : Type 0 where
+    pub none : NothingCut cut start.at.text
+    pub stands : StandsBroken breaks start end
+
   -- where a reader stands that found a fault there: on the line and column of the pending token, if
-  -- that one is wrong, and else where it is or further on
-  abbrev pub StandsAt : (cut : List ℕ → T → List ℕ → Type 0) (here end : Position T)
-      → Reason cut here.at → Type 0
-  StandsAt cut here end wrong =
+  -- that one is wrong, and else where the text after it breaks
+  abbrev pub StandsAt : (cut : List ℕ → T → List ℕ → Type 0) (breaks : List ℕ → List ℕ → Type 0)
+      (here end : Position T) → Reason cut here.at → Type 0
+  StandsAt cut breaks here end wrong =
       (end.place.line ≡ here.place.line) × (end.place.col ≡ here.place.col)
-  StandsAt cut here end (uncut none) = Advances here.place here.input end.place end.input
+  StandsAt cut breaks here end (uncut none) = StandsBroken breaks here end
 
   module _ {V : Type 0} (cut : List ℕ → T → List ℕ → Type 0) (encodes : List T → V → Type 0)
       (start end : Position T) where
@@ -133,6 +149,8 @@ module _ {T : Type 0} where
       pub decodes : Spans cut encodes start.at end.at value
       pub place : Moved start end
 
+  module _ {V : Type 0} (cut : List ℕ → T → List ℕ → Type 0) (breaks : List ℕ → List ℕ → Type 0)
+      (encodes : List T → V → Type 0) (start end : Position T) where
     -- the value goes wrong where these tokens were taken, and the reader stands there
     pub record GoesWrong : Type 0 where
       pub here : Position T
@@ -140,7 +158,7 @@ module _ {T : Type 0} where
       pub moved : Moved start here
       pub reason : Reason cut here.at
       pub fault : Fault cut encodes start.at here.at reason
-      pub stands : StandsAt cut here end reason
+      pub stands : StandsAt cut breaks here end reason
 
     -- no value is encoded here
     abbrev pub ReadsNone : Report → Type 0
@@ -154,12 +172,13 @@ module _ {T : Type 0} where
     module _ {A E : Type 0} (report : E → Report) (means : A → V) where
       -- a call reads a value by what it means; an error leaves the reader anywhere
       abbrev pub Reads : Result A E → Type 0
-      Reads result = MatchResult result (λ x. Read (means x)) (λ e. ReadsNone (report e))
+      Reads result = MatchResult result (λ x. Read cut encodes start end (means x))
+          (λ e. ReadsNone (report e))
 
       -- the same, and an error leaves the reader at the end of the text
       abbrev pub ReadsOrEnds : At T → Result A E → Type 0
-      ReadsOrEnds last result =
-          MatchResult result (λ x. Read (means x)) (λ e. ReadsNoneAndEnds last (report e))
+      ReadsOrEnds last result = MatchResult result (λ x. Read cut encodes start end (means x))
+          (λ e. ReadsNoneAndEnds last (report e))
 
 -- ---- texts
 
@@ -173,16 +192,6 @@ pub record StandsBefore (text left : List ℕ) (line column : ℕ) : Type 0 wher
   pub columns : column ≡ (passed beginning taken).col
   pub exact : length after ≡ length text - (length (before_nul text) + 1 - length left)
 
--- they count these characters, and maybe more before the first NUL or that one
-pub record StandsFrom (text left : List ℕ) (line column : ℕ) : Type 0 where
-  pub taken : List ℕ
-  pub after : List ℕ
-  pub split : text ≡ taken ++ after
-  pub lines : line ≡ (passed beginning taken).line
-  pub columns : column ≡ (passed beginning taken).col
-  pub least : length after ≤ length text - (length (before_nul text) + 1 - length left)
-  pub within : length taken ≤ length (before_nul text) + 1
-
 -- an error of a value that must be a whole input: its message is not that of a value that goes on,
 -- and is the same if it was not; all else is the same
 pub record IsValueError (error result : Report) : Type 0 where
@@ -192,13 +201,19 @@ pub record IsValueError (error result : Report) : Type 0 where
   pub line : result.line ≡ error.line
   pub col : result.col ≡ error.col
 
-module _ {T V : Type 0} (cut : List ℕ → T → List ℕ → Type 0) (encodes : List T → V → Type 0)
-    (bytes : List ℕ) where
-  -- the error stands where the next character is taken after a wrong token, or further on where
-  -- no token can be cut after that one
+module _ {T V : Type 0} (cut : List ℕ → T → List ℕ → Type 0) (breaks : List ℕ → List ℕ → Type 0)
+    (encodes : List T → V → Type 0) (bytes : List ℕ) where
+  -- what is left of the text breaks, and the error stands there
+  pub record BreaksInText (text : List ℕ) (e : Report) : Type 0 where
+    pub left : List ℕ
+    pub broken : breaks text left
+    pub stands : StandsBefore (chars bytes) left e.line e.col
+
+  -- the error stands where the next character is taken after a wrong token, or where the text after
+  -- the pending one breaks
   abbrev pub StandsInText : {here : At T} → Reason cut here → Report → Type 0
   StandsInText {here} wrong e = StandsBefore (chars bytes) here.text e.line e.col
-  StandsInText {here} (uncut none) e = StandsFrom (chars bytes) here.text e.line e.col
+  StandsInText {here} (uncut none) e = BreaksInText here.text e
 
   -- a first token is cut from the text, which goes wrong at that one or after it
   pub record TextGoesWrong (e : Report) : Type 0 where
@@ -209,9 +224,10 @@ module _ {T V : Type 0} (cut : List ℕ → T → List ℕ → Type 0) (encodes 
     pub fault : Fault cut encodes first here reason
     pub stands : StandsInText reason e
 
-  -- no token begins the text, or it goes wrong
+  -- no token begins the text, and the error stands where it breaks; or it goes wrong
   abbrev pub IsNoText : Report → Type 0
-  IsNoText e = NothingCut cut (remaining_text bytes) ⊎ TextGoesWrong e
+  IsNoText e = (NothingCut cut (remaining_text bytes) × BreaksInText (remaining_text bytes) e)
+      ⊎ TextGoesWrong e
 
   -- a value begins the text, and the error stands at the token after it
   pub record TextGoesOn (e : Report) : Type 0 where

@@ -88,10 +88,11 @@ AllTextual = AllByRecursion (λ c. is_textual c ≡ true)
 
 -- ==== how a format cuts a text
 
--- how a format cuts a text: one token from the start of a text; gaps, which are skipped before
--- a token; and what may follow a written value
+-- how a format cuts a text: one token from the start of a text; where a text breaks, of which none is
+-- cut; gaps, which are skipped before a token; and what may follow a written value
 pub record Cutting (T : Type 0) : Type 1 where
   pub cut : List ℕ → T → List ℕ → Type 0
+  pub breaks : List ℕ → List ℕ → Type 0
   pub IsGap : List ℕ → Type 0
   pub may_follow : List ℕ → Type 0
   pub skips : (gap text rest : List ℕ) (t : T) → IsGap gap → cut text t rest

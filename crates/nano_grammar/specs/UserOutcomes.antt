@@ -63,14 +63,18 @@ module _ {T : Type 0} (cut : List ℕ → T → List ℕ → Type 0) (prefix : L
       pub read : known ≡ true → ReadField shape.takes before after start end
       pub unknown : known ≡ false → same
 
-    -- one of the fields has the name, and no value of its type stands here
-    pub record LooksUpNone (e : Report) : Type 0 where
-      pub known : shape.knows name ≡ true
-      pub none : ReadsNone cut (FieldTokens prefix name shape.takes) start end e
+module _ {T : Type 0} (cut : List ℕ → T → List ℕ → Type 0) (breaks : List ℕ → List ℕ → Type 0)
+    (prefix : List T) (name : List ℕ) (shape : Shape T) (before after : List (Field T) → Type 0)
+    (same : Type 0) (start end : Position T) where
+  -- one of the fields has the name, and no value of its type stands here
+  pub record LooksUpNone (e : Report) : Type 0 where
+    pub known : shape.knows name ≡ true
+    pub none : ReadsNone cut breaks (FieldTokens prefix name shape.takes) start end e
 
-    -- a call reads the value of the field with this name, if one has it
-    abbrev pub ReadsField : {E : Type 0} → (E → Report) → Result Bool E → Type 0
-    ReadsField report result = MatchResult result LooksUp (λ e. LooksUpNone (report e))
+  -- a call reads the value of the field with this name, if one has it
+  abbrev pub ReadsField : {E : Type 0} → (E → Report) → Result Bool E → Type 0
+  ReadsField report result = MatchResult result
+      (LooksUp cut prefix name shape before after same start end) (λ e. LooksUpNone (report e))
 
 -- ---- all fields
 
@@ -99,7 +103,7 @@ module _ {T : Type 0} {c : Cutting T} {g : Grammar T} (s : FieldStyle c g) (shap
   -- a call takes a list of fields
   abbrev pub HoldsFields : {A E : Type 0} → (E → Report) → Result A E → Type 0
   HoldsFields report result = MatchResult result (λ _. HeldFields)
-      (λ e. ReadsNone c.cut (EncodedFields s shape) start end (report e))
+      (λ e. ReadsNone c.cut c.breaks (EncodedFields s shape) start end (report e))
 
 -- ---- variants
 
@@ -118,7 +122,7 @@ module _ {T : Type 0} {c : Cutting T} {g : Grammar T} (s : VariantStyle c g)
     -- no content of a variant with the name stands here. Where none has it, the error says so
     pub record NoChoice (last : At T) (e : Report) : Type 0 where
       pub none : (from : ℕ)
-          → ReadsNoneAndEnds c.cut (EncodesAfter s from vs stood name) start end last e
+          → ReadsNoneAndEnds c.cut c.breaks (EncodesAfter s from vs stood name) start end last e
       pub unknown : is_known_name vs stood name ≡ false → IsUnknownAt start.place name e
 
     -- a call reads the content of the variant with the name
@@ -137,7 +141,7 @@ module _ {T : Type 0} {c : Cutting T} {g : Grammar T} (s : VariantStyle c g)
 
     -- no variant is encoded here. Where a name stands here that no variant has, the error says so
     pub record NoEnum (last : At T) (e : Report) : Type 0 where
-      pub none : ReadsNoneAndEnds c.cut (EncodesVariant s vs) start end last e
+      pub none : ReadsNoneAndEnds c.cut c.breaks (EncodesVariant s vs) start end last e
       pub unknown : (u : HasUnknownName s vs start.at) → e.memory ≡ false
           → IsUnknownAfter start u.after u.name e
 

@@ -18,16 +18,16 @@ use Rattle.nano_json.specs.ContainerCodecs.{map_codec, set_codec}
 module _ {V A : Type 0} (encodes : List Token → V → Type 0) (means : A → V) (bytes : List ℕ) where
   -- the value at the beginning of the text is read, by what it means
   abbrev pub ReadsText : Result A DeJsonErr → Type 0
-  ReadsText result = ReadsTextBy Cut encodes bytes report means result
+  ReadsText result = ReadsTextBy Cut Breaks encodes bytes report means result
 
   -- the value that is the whole input is read, by what it means
   abbrev pub ReadsWhole : Result A DeJsonErr → Type 0
-  ReadsWhole result = ReadsWholeBy Cut encodes bytes report means end result
+  ReadsWhole result = ReadsWholeBy Cut Breaks encodes bytes report means end result
 
 -- an error of a call that begins with reading the value at the beginning of the text: no value is
 -- encoded there
 abbrev pub RejectsText : {V : Type 0} → (List Token → V → Type 0) → List ℕ → DeJsonErr → Type 0
-RejectsText encodes bytes e = ReadsNoText Cut encodes bytes (report e)
+RejectsText encodes bytes e = ReadsNoText Cut Breaks encodes bytes (report e)
 
 -- where the error of a text says more than that memory ran out, no value decodes there
 abbrev pub RejectedDecodesToNothing : {V : Type 0} → (List Token → V → Type 0) → Type 0

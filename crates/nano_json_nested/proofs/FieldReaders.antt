@@ -27,7 +27,7 @@ name_leads shape pending us more rest next f h is =
     let whole = ap (λ (xs : List Token). xs ++ next ∷ more) (sym h.0) ∙ is in
     (str f.name ∷ (colon ∷ []), f.name, k.0, k.1, refl, ap (λ (xs : List Token). str f.name ∷ (colon ∷ xs)) (sym k.2) ∙ whole)
 
-pub name_not : (shape : Shape) {start end : Position Token} {e : Report} → ReadsNone Cut AKey start end e
-    → ReadsNone Cut (FieldLeft passed_over None shape) start end e
+pub name_not : (shape : Shape) {start end : Position Token} {e : Report} → ReadsNone Cut Breaks AKey start end e
+    → ReadsNone Cut Breaks (FieldLeft passed_over None shape) start end e
 name_not shape {start} bad =
     none_first Cut (FieldLeft passed_over None shape) AKey (name_leads shape start.at.token) bad

@@ -22,7 +22,7 @@ use Rattle.nano_json_nested.specs.Depth.{RejectsLevels, RunsOut}
 pub nothing_there : {old new : DeJsonState} {e : DeJsonErr} {limit : ℕ}
     (E : List Token → Meaning → Type 0)
     (i : Chars) → ((ts : List Token) (m : Meaning) → E ts m → ⊥) → RejectsLevels limit old new e
-    → ReadsNoneAndEnds Cut E (position old i) (position new i) ended (report e)
+    → ReadsNoneAndEnds Cut Breaks E (position old i) (position new i) ended (report e)
 nothing_there {old} {new} E i none h =
     let up = gives_up old new i h.state in
     let wrong = goes_wrong Cut E (position old i) refl (none []) (λ ts. none (pending old ∷ ts)) in
@@ -34,7 +34,7 @@ nothing_there {old} {new} E i none h =
 -- and out of memory says nothing of what is there
 pub ran_out : {old new : DeJsonState} {e : DeJsonErr} (E : List Token → Meaning → Type 0)
     (i : Chars) → RunsOut old new e
-    → ReadsNoneAndEnds Cut E (position old i) (position new i) ended (report e)
+    → ReadsNoneAndEnds Cut Breaks E (position old i) (position new i) ended (report e)
 ran_out {old} {new} E i h =
     let up = gives_up old new i h.state in
     record {
@@ -47,7 +47,7 @@ ran_out {old} {new} E i h =
 pub none_left : {A : Type 0} (l : Nested json json_grammar A) {limit : ℕ}
     {old new : DeJsonState} {e : DeJsonErr} (left : ℕ) (i : Chars) → left ≡ 0
     → RejectsLevels limit old new e
-    → ReadsNoneAndEnds Cut (level l left).encoding.encodes (position old i) (position new i) ended
+    → ReadsNoneAndEnds Cut Breaks (level l left).encoding.encodes (position old i) (position new i) ended
     (report e)
 none_left l left i is h =
     let E = (level l left).encoding.encodes in

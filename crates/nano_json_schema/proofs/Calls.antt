@@ -73,14 +73,14 @@ field_passed k = (
 
 -- nothing may stand here
 pub nothing_here : (s : DeJsonState) (i : Chars) (e : Report) → IsMadeAt (place_of s) e
-    → ReadsNone Cut (λ us (x : Unit {0}). nothing_after.Value us) (position s i) (position s i) e
+    → ReadsNone Cut Breaks (λ us (x : Unit {0}). nothing_after.Value us) (position s i) (position s i) e
 nothing_here s i e made =
     let Nothing : List Token → Unit {0} → Type 0 = λ us x. nothing_after.Value us in
     fails_here (goes_wrong Cut Nothing (position s i) refl (λ x h. h) (λ us x h. h)) made
 
 -- where no string is pending, no name is
 pub no_name_here : (s : DeJsonState) (i : Chars) (ts : List Token) → (IsStr (pending s) → ⊥)
-    → GoesWrongBy Cut (λ us (name : List ℕ). us ≡ str name ∷ ts) (position s i) (position s i)
+    → GoesWrongBy Cut Breaks (λ us (name : List ℕ). us ≡ str name ∷ ts) (position s i) (position s i)
 no_name_here s i ts other =
     let Named : List Token → List ℕ → Type 0 = λ us name. us ≡ str name ∷ ts in
     goes_wrong Cut Named (position s i) refl (λ name e. absurd (cc e))
@@ -118,7 +118,7 @@ module _ {old mid : DeJsonState} {text : List ℕ} (i : Chars) (h : TookText old
   }
 
   pub text_not : {end : Position Token} {e : Report} → Fails (NothingCut (remaining mid.cur i)) (position mid i) end e
-      → ReadsNone Cut AloneName (position old i) end e
+      → ReadsNone Cut Breaks AloneName (position old i) end e
   text_not k =
       stopped_here Cut AloneName refl (λ v e. absurd (cc e)) (fails_before (subst (NothingCut) same_text) k)
 
@@ -140,10 +140,10 @@ module _ {old mid : DeJsonState} {text : List ℕ} (i : Chars) (h : TookText old
 
   key_wrong : (there here : Position Token) (reason : Reason Cut here.at)
       → here.at.text ≡ text_at here.place here.input → Moves (place_of mid) i here.place here.input
-      → StandsAt Cut here there reason → (tokens : List Token) → Leaves Cut tokens (at mid i) here.at
+      → StandsAt Cut Breaks here there reason → (tokens : List Token) → Leaves Cut tokens (at mid i) here.at
       → ((more : List Token) → MayFollow Cut reason more
       → NoneBegins (AreTokens (pending mid ∷ (colon ∷ []))) (tokens ++ here.at.token ∷ more))
-      → GoesWrongBy Cut AKey (position old i) there
+      → GoesWrongBy Cut Breaks AKey (position old i) there
   key_wrong there here wrong at moved stands [] l none =
       let first = ap (λ (z : At Token). z.token ∷ colon ∷ colon ∷ []) l in
       absurd (none (colon ∷ colon ∷ []) tt (pending mid ∷ (colon ∷ [])) [] colon tt refl first)
@@ -180,17 +180,17 @@ module _ {old mid : DeJsonState} {text : List ℕ} (i : Chars) (h : TookText old
   }
 
   pub key_not : {end : Position Token} {e : Report}
-      → ReadsNone Cut (AreTokens (pending mid ∷ (colon ∷ []))) (position mid i) end e
-      → ReadsNone Cut AKey (position old i) end e
+      → ReadsNone Cut Breaks (AreTokens (pending mid ∷ (colon ∷ []))) (position mid i) end e
+      → ReadsNone Cut Breaks AKey (position old i) end e
   key_not {end} k =
       fails_before (λ f. key_wrong end f.here f.reason f.text f.moved f.stands f.fault.tokens f.fault.taken f.fault.none) k
 
 -- no string is pending
 pub no_text : {old new : DeJsonState} (i : Chars) (e : DeJsonErr) (ts : List Token) → LacksText old new e
-    → ReadsNone Cut (λ us (name : List ℕ). us ≡ str name ∷ ts) (position old i) (position new i) (report e)
+    → ReadsNone Cut Breaks (λ us (name : List ℕ). us ≡ str name ∷ ts) (position old i) (position new i) (report e)
 no_text {old} i e ts h =
     let Named : List Token → List ℕ → Type 0 = λ us name. us ≡ str name ∷ ts in
-    subst (λ (s : DeJsonState). ReadsNone Cut Named (position old i) (position s i) (report e))
+    subst (λ (s : DeJsonState). ReadsNone Cut Breaks Named (position old i) (position s i) (report e))
     (sym h.unchanged) (fails_here (no_name_here old i ts h.lacks) h.made)
 
 -- ==== the pending token
@@ -258,7 +258,7 @@ module _ (vs : Variants Encoding) (start : At Token)
 
 module _ (vs : Encodings) {start end : Position Token} where
   -- no name of a variant stands there
-  pub name_not : {e : Report} → ReadsNoneAndEnds Cut VariantBegins start end ended e
+  pub name_not : {e : Report} → ReadsNoneAndEnds Cut Breaks VariantBegins start end ended e
       → NoEnum json_variants vs start end ended e
   name_not h = record {
     none = record {

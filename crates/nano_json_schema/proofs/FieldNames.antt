@@ -68,11 +68,11 @@ module _ {is : Bool} {old new : DeJsonState} {i j : Chars} where
     -- where a token that stands there is wrong, it isn't the wanted one; and after it the same is cut
     from_there : (t : Token) (there : Position Token) → pending old ≡ t → (here : Position Token)
         → (reason : Reason Cut here.at) → here.at.text ≡ text_at here.place here.input
-        → Moved (position new j) here → StandsAt Cut here there reason → (tokens : List Token)
+        → Moved (position new j) here → StandsAt Cut Breaks here there reason → (tokens : List Token)
         → Leaves Cut tokens (at new j) here.at
         → ((more : List Token) → MayFollow Cut reason more
         → NoneBegins (AreTokens (t ∷ [])) (tokens ++ here.at.token ∷ more))
-        → GoesWrongBy Cut (AreTokens (t ∷ [])) (position old i) there
+        → GoesWrongBy Cut Breaks (AreTokens (t ∷ [])) (position old i) there
     from_there t there is here wrong text moved stands [] l none =
         let same : t ≡ here.at.token = sym is ∙ (sym h.tok ∙ ap (λ (z : At Token). z.token) l) in
         absurd (none (t ∷ []) tt (t ∷ []) [] t tt refl (ap (λ (u : Token). u ∷ t ∷ []) same))
@@ -100,14 +100,14 @@ module _ {is : Bool} {old new : DeJsonState} {i j : Chars} where
     -- what is not taken there is not taken here, where the name was looked for after the wanted token
     -- alone
     not_here : (t : Token) (there : Position Token) → (is ≡ true → pending old ≡ t)
-        → GoesWrongBy Cut (AreTokens (t ∷ [])) (position new j) there
-        → GoesWrongBy Cut (AreTokens (t ∷ [])) (position old i) there
+        → GoesWrongBy Cut Breaks (AreTokens (t ∷ [])) (position new j) there
+        → GoesWrongBy Cut Breaks (AreTokens (t ∷ [])) (position old i) there
     not_here t there begins k =
-        elim is as (λ b. is ≡ b → GoesWrongBy Cut (AreTokens (t ∷ [])) (position old i) there) [
+        elim is as (λ b. is ≡ b → GoesWrongBy Cut Breaks (AreTokens (t ∷ [])) (position old i) there) [
           | true ↦ λ e.
               from_there t there (begins e) k.here k.reason k.text k.moved k.stands k.fault.tokens k.fault.taken k.fault.none
           | false ↦ λ e.
-              subst (λ (q : Position Token). GoesWrongBy Cut (AreTokens (t ∷ [])) q there) (still_there (h.unchanged e)) k
+              subst (λ (q : Position Token). GoesWrongBy Cut Breaks (AreTokens (t ∷ [])) q there) (still_there (h.unchanged e)) k
         ] refl
 
     pub opened : {same_buffers : Type 0} {t : Token} {end : Position Token} → Took Cut same_buffers (position new j) end (t ∷ [])
@@ -120,8 +120,8 @@ module _ {is : Bool} {old new : DeJsonState} {i j : Chars} where
     }
 
     pub not_opened : {t : Token} {end : Position Token} {e : Report} → (is ≡ true → pending old ≡ t)
-        → ReadsNone Cut (AreTokens (t ∷ [])) (position new j) end e
-        → ReadsNone Cut (AreTokens (t ∷ [])) (position old i) end e
+        → ReadsNone Cut Breaks (AreTokens (t ∷ [])) (position new j) end e
+        → ReadsNone Cut Breaks (AreTokens (t ∷ [])) (position old i) end e
     not_opened {t} {end} begins k = fails_after (not_here t end begins) h.place k
 
     pub went_on : {same_buffers same : Type 0} {end : Position Token} → (is ≡ false → position new j ≡ position old i)
@@ -145,8 +145,8 @@ module _ {is : Bool} {old new : DeJsonState} {i j : Chars} where
     ]
 
     pub not_on : {end : Position Token} {e : Report} → (is ≡ true → pending old ≡ comma)
-        → Fails ((pending new ≢ curly_close) × GoesWrongBy Cut (AreTokens (comma ∷ [])) (position new j) end) (position new j) end e
-        → Fails ((pending old ≢ curly_close) × GoesWrongBy Cut (AreTokens (comma ∷ [])) (position old i) end) (position old i) end e
+        → Fails ((pending new ≢ curly_close) × GoesWrongBy Cut Breaks (AreTokens (comma ∷ [])) (position new j) end) (position new j) end e
+        → Fails ((pending old ≢ curly_close) × GoesWrongBy Cut Breaks (AreTokens (comma ∷ [])) (position old i) end) (position old i) end e
     not_on {end} begins k =
         fails_after (λ bad. (λ closes. bad.0 (h.tok ∙ closes), not_here comma end begins bad.1)) h.place k
 
@@ -171,10 +171,10 @@ module _ {old mid : DeJsonState} {i j : Chars} (is : IsStr (pending old))
       }
 
   pub pending_not : {start end : Position Token} {e : Report} → start ≡ position mid j
-      → ReadsNone Cut (AreTokens (colon ∷ [])) start end e
-      → ReadsNone Cut (AreTokens (pending old ∷ (colon ∷ []))) (position old i) end e
+      → ReadsNone Cut Breaks (AreTokens (colon ∷ [])) start end e
+      → ReadsNone Cut Breaks (AreTokens (pending old ∷ (colon ∷ []))) (position old i) end e
   pending_not {start} {end} {e} still k =
-      let there = subst (λ (p : Position Token). ReadsNone Cut (AreTokens (colon ∷ [])) p end e) still k in
+      let there = subst (λ (p : Position Token). ReadsNone Cut Breaks (AreTokens (colon ∷ [])) p end e) still k in
       none_in Cut (AreTokens (pending old ∷ (colon ∷ []))) (AreTokens (colon ∷ [])) (pending old ∷ [])
       (later_tokens_lead (pending old ∷ []) (colon ∷ []) (pending mid)) (refl, (at mid j, h.taken, refl)) h.place there
 
@@ -188,10 +188,10 @@ module _ {start end : Position Token} where
       (record { named = refl; head = k.taken; place = k.place })
 
   pub no_colon_in_place : {name : Option (Bor (List ℕ))} {e : Report} (n : Bor (List ℕ)) → name ≡ Some n
-      → ReadsNone Cut (AreTokens (colon ∷ [])) start end e
-      → ReadsNone Cut (AreTokens (head_left (name_bytes name) start.at.token)) start end e
+      → ReadsNone Cut Breaks (AreTokens (colon ∷ [])) start end e
+      → ReadsNone Cut Breaks (AreTokens (head_left (name_bytes name) start.at.token)) start end e
   no_colon_in_place {e = e} n is k =
-      subst (λ (o : Option (Bor (List ℕ))). ReadsNone Cut (AreTokens (head_left (name_bytes o) start.at.token)) start end e)
+      subst (λ (o : Option (Bor (List ℕ))). ReadsNone Cut Breaks (AreTokens (head_left (name_bytes o) start.at.token)) start end e)
       (sym is) k
 
   pub colon_taken : {same_buffers : Type 0} {name : Option (Bor (List ℕ))} (n : List ℕ) → name ≡ None
@@ -201,8 +201,8 @@ module _ {start end : Position Token} where
       (record { named = tt; head = k.taken; place = k.place })
 
   pub no_colon_taken : {name : Option (Bor (List ℕ))} {e : Report} → name ≡ None
-      → ReadsNone Cut (AreTokens (start.at.token ∷ (colon ∷ []))) start end e
-      → ReadsNone Cut (AreTokens (head_left (name_bytes name) start.at.token)) start end e
+      → ReadsNone Cut Breaks (AreTokens (start.at.token ∷ (colon ∷ []))) start end e
+      → ReadsNone Cut Breaks (AreTokens (head_left (name_bytes name) start.at.token)) start end e
   no_colon_taken {e = e} is k =
-      subst (λ (o : Option (Bor (List ℕ))). ReadsNone Cut (AreTokens (head_left (name_bytes o) start.at.token)) start end e)
+      subst (λ (o : Option (Bor (List ℕ))). ReadsNone Cut Breaks (AreTokens (head_left (name_bytes o) start.at.token)) start end e)
       (sym is) k

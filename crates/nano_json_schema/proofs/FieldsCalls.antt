@@ -82,8 +82,8 @@ module _ (unknown : AfterUnknown) where
       (k.0, k.0, k.2, k.3, (refl, k.4), k.5)
 
   pub value_not : (shape : Shape) {start mid end : Position Token} (name : Option (List ℕ)) {e : Report} (n : List ℕ)
-      → TookColon name start mid n → ReadsNone Cut (FieldTokens [] n (Allowed unknown shape)) mid end e
-      → ReadsNone Cut (FieldLeft unknown name shape) start end e
+      → TookColon name start mid n → ReadsNone Cut Breaks (FieldTokens [] n (Allowed unknown shape)) mid end e
+      → ReadsNone Cut Breaks (FieldLeft unknown name shape) start end e
   value_not shape {mid = mid} name n head bad =
       none_in Cut (FieldLeft unknown name shape) (FieldTokens [] n (Allowed unknown shape)) (head_left name (str n))
       (value_leads shape name n mid.at.token head.named) head.head head.place bad
@@ -110,8 +110,8 @@ module _ (unknown : AfterUnknown) where
       (colon ∷ [], tt, k.0, k.1, refl, ap (λ (xs : List Token). colon ∷ xs) (sym k.2) ∙ whole)
 
   pub colon_not : (shape : Shape) {start end : Position Token} (name : Option (List ℕ)) {e : Report}
-      → ReadsNone Cut (AreTokens (head_left name start.at.token)) start end e
-      → ReadsNone Cut (FieldLeft unknown name shape) start end e
+      → ReadsNone Cut Breaks (AreTokens (head_left name start.at.token)) start end e
+      → ReadsNone Cut Breaks (FieldLeft unknown name shape) start end e
   colon_not shape {start} name bad =
       none_first Cut (FieldLeft unknown name shape) (AreTokens (head_left name start.at.token))
       (colon_leads shape name start.at.token) bad
@@ -171,8 +171,8 @@ module _ (unknown : AfterUnknown) (struct : Struct Token) where
   }
 
   pub opening_not : {start end : Position Token} {e : Report}
-      → ReadsNone Cut (AreTokens (curly_open ∷ [])) start end e
-      → ReadsNone Cut (EncodesFieldsWith unknown struct.shape) start end e
+      → ReadsNone Cut Breaks (AreTokens (curly_open ∷ [])) start end e
+      → ReadsNone Cut Breaks (EncodesFieldsWith unknown struct.shape) start end e
   opening_not {start} bad =
       none_first Cut (EncodesFieldsWith unknown struct.shape) (AreTokens (curly_open ∷ []))
       (struct_opening_leads (fields_with unknown) json_laws struct start.at.token) bad
@@ -234,8 +234,8 @@ module _ (unknown : AfterUnknown) (struct : Struct Token) where
       }
 
       pub field_not : {end : Position Token} {e : Report}
-          → ReadsNone Cut (FieldLeft unknown (name_bytes name) struct.shape) now end e
-          → ReadsNone Cut (EncodesFieldsWith unknown struct.shape) start end e
+          → ReadsNone Cut Breaks (FieldLeft unknown (name_bytes name) struct.shape) now end e
+          → ReadsNone Cut Breaks (EncodesFieldsWith unknown struct.shape) start end e
       field_not bad =
           let k =
           field_left start.at h.here now.at (name_bytes name) h.read h.stands
@@ -244,8 +244,8 @@ module _ (unknown : AfterUnknown) (struct : Struct Token) where
 
       pub comma_not : {after : List Field → Type 0} {mid end : Position Token} {e : Report}
           → TookField (name_bytes name) now mid unknown struct.shape holds after
-          → Fails ((mid.at.token ≢ curly_close) × GoesWrong Cut (AreTokens (comma ∷ [])) mid end) mid end e
-          → ReadsNone Cut (EncodesFieldsWith unknown struct.shape) start end e
+          → Fails ((mid.at.token ≢ curly_close) × GoesWrong Cut Breaks (AreTokens (comma ∷ [])) mid end) mid end e
+          → ReadsNone Cut Breaks (EncodesFieldsWith unknown struct.shape) start end e
       comma_not {mid = mid} field bad =
           let read = field.decodes h.here h.stands in
           let shape = struct.shape in
@@ -277,8 +277,8 @@ module _ (unknown : AfterUnknown) (struct : Struct Token) where
       }
 
       pub closing_not : {end : Position Token} {e : Report}
-          → ReadsNone Cut (AreTokens (curly_close ∷ [])) now end e
-          → ReadsNone Cut (EncodesFieldsWith unknown struct.shape) start end e
+          → ReadsNone Cut Breaks (AreTokens (curly_close ∷ [])) now end e
+          → ReadsNone Cut Breaks (EncodesFieldsWith unknown struct.shape) start end e
       closing_not bad =
           none_in Cut (EncodesFieldsWith unknown struct.shape) (AreTokens (curly_close ∷ []))
           (fields_taken (fields_with unknown) json_laws struct holds start.at now.at read_here)

@@ -74,8 +74,8 @@ module _ (vs : Encodings) {same_buffers : Type 0} {start : Position Token} (name
           place = moves_append h.place k.place;
         }
 
-    pub content_not : {e : Report} → ReadsNoneAndEnds Cut (Closed content.encodes) mid end ended e
-        → ReadsNoneAndEnds Cut (EncodesVariant vs) start end ended e
+    pub content_not : {e : Report} → ReadsNoneAndEnds Cut Breaks (Closed content.encodes) mid end ended e
+        → ReadsNoneAndEnds Cut Breaks (EncodesVariant vs) start end ended e
     content_not k = record {
       fails = none_in Cut (EncodesVariant vs) (Closed content.encodes) (opened name)
           (content_leads vs name tag content has mid.at.token) h.taken h.place k.fails;
@@ -87,7 +87,7 @@ module _ (vs : Encodings) {same_buffers : Type 0} {start : Position Token} (name
     not_known : {ts : List Token} (stood : Bool) → Took Cut same_buffers start (position s i) ts
         → LeadsTo (EncodesVariant vs) (After 0 vs stood name) ts (at s i).token
         → ((us : List Token) (m : Meaning) → After 0 vs stood name us m → ⊥)
-        → ReadsNoneAndEnds Cut (EncodesVariant vs) start (position new i) ended (report e)
+        → ReadsNoneAndEnds Cut Breaks (EncodesVariant vs) start (position new i) ended (report e)
     not_known {ts} stood h leads none =
         let up = gives_up s new i unknown.state in
         let Rest = After 0 vs stood name in
@@ -99,9 +99,9 @@ module _ (vs : Encodings) {same_buffers : Type 0} {start : Position Token} (name
         }
 
     pub unit_not_known : Took Cut same_buffers start (position s i) (alone name) → unit_named 0 vs name ≡ None
-        → ReadsNoneAndEnds Cut (EncodesVariant vs) start (position new i) ended (report e)
+        → ReadsNoneAndEnds Cut Breaks (EncodesVariant vs) start (position new i) ended (report e)
     unit_not_known h has = not_known true h (alone_leads vs name (at s i).token) (no_unit vs name has)
 
     pub content_not_known : Took Cut same_buffers start (position s i) (opened name) → content_named 0 vs name ≡ nobody
-        → ReadsNoneAndEnds Cut (EncodesVariant vs) start (position new i) ended (report e)
+        → ReadsNoneAndEnds Cut Breaks (EncodesVariant vs) start (position new i) ended (report e)
     content_not_known h has = not_known false h (opened_leads vs name (at s i).token) (no_content vs name has)

@@ -35,14 +35,14 @@ use Rattle.nano_json_tokens.specs.declared.token.DeJsonTok.TheVariants.{Eof}
 abbrev pub TakesTokens : {A V : Type 0} → (A → List Token) → (List Token → V → Type 0)
     → Position Token → Position Token → Result A DeJsonErr → Type 0
 TakesTokens tokens encodes start end result = MatchResult result
-    (λ x. Took Cut (Unit {0}) start end (tokens x)) (λ e. ReadsNone Cut encodes start end (report e))
+    (λ x. Took Cut (Unit {0}) start end (tokens x)) (λ e. ReadsNone Cut Breaks encodes start end (report e))
 
 -- the same, and an error leaves the state at the end of the text
 abbrev pub TakesTokensOrEnds : {A V : Type 0} → (A → List Token) → (List Token → V → Type 0)
     → Position Token → Position Token → Result A DeJsonErr → Type 0
 TakesTokensOrEnds tokens encodes start end result = MatchResult result
     (λ x. Took Cut (Unit {0}) start end (tokens x))
-    (λ e. ReadsNoneAndEnds Cut encodes start end ended (report e))
+    (λ e. ReadsNoneAndEnds Cut Breaks encodes start end ended (report e))
 
 -- ---- fields
 
@@ -50,21 +50,21 @@ module _ (name : List ℕ) (shape : Shape) (before after : List Field → Type 0
   -- a call reads the value of the field with this name, if one has it, and else leaves all the same
   abbrev pub ReadsField : Type 0 → Position Token → Position Token → Result Bool DeJsonErr → Type 0
   ReadsField same start end result =
-      ReadsFieldBy Cut [] name shape before after same start end report result
+      ReadsFieldBy Cut Breaks [] name shape before after same start end report result
 
   -- a call reads the value after this name, or takes what may come there where no field has the name
   abbrev pub TakesValue : {A : Type 0} → AfterUnknown → Position Token → Position Token
       → Result A DeJsonErr → Type 0
   TakesValue unknown start end result = MatchResult result
       (λ _. ReadField Cut [] name (Allowed unknown shape) before after start end)
-      (λ e. ReadsNone Cut (FieldTokens [] name (Allowed unknown shape)) start end (report e))
+      (λ e. ReadsNone Cut Breaks (FieldTokens [] name (Allowed unknown shape)) start end (report e))
 
 -- a call takes what may come after a name that is not known, or none of it stands here
 abbrev pub TakesUnknown : {A : Type 0} → AfterUnknown → Position Token → Position Token
     → Result A DeJsonErr → Type 0
 TakesUnknown unknown start end result = MatchResult result
     (λ _. (us : List Token) × unknown.Value us × Took Cut (Unit {0}) start end us)
-    (λ e. ReadsNone Cut (λ us (x : Unit {0}). unknown.Value us) start end (report e))
+    (λ e. ReadsNone Cut Breaks (λ us (x : Unit {0}). unknown.Value us) start end (report e))
 
 module _ (shape : Shape) (holds : List Field → Type 0) where
   -- a call gives values which mean what the fields do that are held

@@ -144,7 +144,7 @@ module _ (name : Option (List ℕ)) (start end : Position Token) where
 
   abbrev pub TakesColonAfter : Result (Bor (List ℕ)) DeJsonErr → Type 0
   TakesColonAfter result = MatchResult result (λ taken. TookColon taken.now)
-      (λ e. ReadsNone Cut (AreTokens (head_left name start.at.token)) start end (report e))
+      (λ e. ReadsNone Cut Breaks (AreTokens (head_left name start.at.token)) start end (report e))
 
   module _ (unknown : AfterUnknown) (shape : Shape) (before after : List Field → Type 0) where
     -- wherever the field begins, it was taken. Where the fields before it were held, they are held
@@ -158,7 +158,7 @@ module _ (name : Option (List ℕ)) (start end : Position Token) where
 
     abbrev pub TakesField : {A : Type 0} → Result A DeJsonErr → Type 0
     TakesField result = MatchResult result (λ _. TookField)
-        (λ e. ReadsNone Cut (FieldLeft unknown name shape) start end (report e))
+        (λ e. ReadsNone Cut Breaks (FieldLeft unknown name shape) start end (report e))
 
 -- ==== variants
 

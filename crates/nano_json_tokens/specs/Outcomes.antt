@@ -72,7 +72,7 @@ Takes ts old before new after = Leaves Cut ts (at old before) (at new after)
 abbrev pub GoesWrong : {V : Type 0} → (List Token → V → Type 0) → DeJsonState → Chars → DeJsonState → Chars
     → Type 0
 GoesWrong encodes old before new after =
-    GoesWrongBy Cut encodes (position old before) (position new after)
+    GoesWrongBy Cut Breaks encodes (position old before) (position new after)
 
 -- these tokens, with one more or the end after them, do not stand here
 abbrev pub NoneHere : List Token → DeJsonState → Chars → DeJsonState → Chars → Type 0
@@ -210,13 +210,13 @@ pub record LacksText (old new : DeJsonState) (e : DeJsonErr) : Type 0 where
 -- a call reads a value by what it means; an error leaves the state anywhere
 abbrev pub Reads : {V A : Type 0} → (List Token → V → Type 0) → (A → V) → Position Token
     → Position Token → Result A DeJsonErr → Type 0
-Reads encodes means start end result = ReadsBy Cut encodes start end report means result
+Reads encodes means start end result = ReadsBy Cut Breaks encodes start end report means result
 
 -- the same, and an error leaves the state at the end of the text
 abbrev pub ReadsOrEnds : {V A : Type 0} → (List Token → V → Type 0) → (A → V) → Position Token
     → Position Token → Result A DeJsonErr → Type 0
 ReadsOrEnds encodes means start end result =
-    ReadsOrEndsBy Cut encodes start end report means ended result
+    ReadsOrEndsBy Cut Breaks encodes start end report means ended result
 
 -- ---- values that are taken with no token pending
 

@@ -24,7 +24,7 @@ pub record RejectsLine (encodes : List Token → Meaning → Type 0) (line : Lis
   pub some : IsBlank line → ⊥
   pub utf8 : IsUtf8 line
   pub error : DeJsonErr
-  pub rejects : ReadsNoWhole Cut encodes line end (report error)
+  pub rejects : ReadsNoWhole Cut Breaks encodes line end (report error)
   pub rejected : IsRejected error number result
   pub text_is : string_bytes text ≡ line
 

@@ -23,7 +23,7 @@ use Rattle.nano_ron_nested.specs.Depth.{RejectsLevels, RunsOut}
 pub nothing_there : {old new : DeRonState} {e : DeRonErr} {limit : ℕ}
     (E : List Token → Meaning → Type 0)
     (i : Chars) → ((ts : List Token) (m : Meaning) → E ts m → ⊥) → RejectsLevels limit old new e
-    → ReadsNoneAndEnds Cut E (position old i) (position new i) ended (report e)
+    → ReadsNoneAndEnds Cut Breaks E (position old i) (position new i) ended (report e)
 nothing_there {old} {new} E i none h =
     let up = gives_up old new i h.state in
     let wrong = goes_wrong Cut E (position old i) refl (none []) (λ ts. none (pending old ∷ ts)) in
@@ -35,7 +35,7 @@ nothing_there {old} {new} E i none h =
 -- and out of memory says nothing of what is there
 pub ran_out : {old new : DeRonState} {e : DeRonErr} (E : List Token → Meaning → Type 0)
     (i : Chars) → RunsOut old new e
-    → ReadsNoneAndEnds Cut E (position old i) (position new i) ended (report e)
+    → ReadsNoneAndEnds Cut Breaks E (position old i) (position new i) ended (report e)
 ran_out {old} {new} E i h =
     let up = gives_up old new i h.state in
     record {
@@ -56,7 +56,7 @@ module _ {A : Type 0} (l : Nested ron ron_grammar A) where
   -- no level is left
   pub none_left : {limit : ℕ} {old new : DeRonState} {e : DeRonErr} (left : ℕ) (i : Chars)
       → left ≡ 0 → RejectsLevels limit old new e
-      → ReadsNoneAndEnds Cut (Encodes left) (position old i) (position new i) ended (report e)
+      → ReadsNoneAndEnds Cut Breaks (Encodes left) (position old i) (position new i) ended (report e)
   none_left left i is h =
       nothing_there (Encodes left) i
       (λ ts m k. level_none l m ts (subst (λ n. Encodes n ts m) is k)) h
@@ -76,10 +76,10 @@ module _ {A : Type 0} (l : Nested ron ron_grammar A) where
           place = h.place;
         })
 
-    pub value_not : {e : Report} → ReadsNoneAndEnds Cut (EncodesAround n) start end ended e
-        → ReadsNoneAndEnds Cut (Encodes left) start end ended e
+    pub value_not : {e : Report} → ReadsNoneAndEnds Cut Breaks (EncodesAround n) start end ended e
+        → ReadsNoneAndEnds Cut Breaks (Encodes left) start end ended e
     value_not {e} h =
-        subst (λ k. ReadsNoneAndEnds Cut (Encodes k) start end ended e) (sym is) (record {
+        subst (λ k. ReadsNoneAndEnds Cut Breaks (Encodes k) start end ended e) (sym is) (record {
           fails = none_as Cut (Encodes (suc n)) (EncodesAround n)
               (λ ts m k. (m, level_content l n m ts k)) h.fails;
           ended = h.ended;

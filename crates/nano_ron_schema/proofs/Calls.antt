@@ -130,8 +130,8 @@ module _ {S : List Token → Meaning → Type 0} {start end : Position Token} wh
       content_read ron_variants S {same_buffers = Unit {0}} {mid = end} h
       (record { taken = refl; buffers = tt; place = moves_none end.place end.input })
 
-  pub closed_not : {e : Report} → ReadsNoneAndEnds Cut S start end ended e
-      → ReadsNoneAndEnds Cut (Closed S) start end ended e
+  pub closed_not : {e : Report} → ReadsNoneAndEnds Cut Breaks S start end ended e
+      → ReadsNoneAndEnds Cut Breaks (Closed S) start end ended e
   closed_not h = content_not ron_variants S h
 
 -- ---- a name, and what comes after it
@@ -139,7 +139,7 @@ module _ {S : List Token → Meaning → Type 0} {start end : Position Token} wh
 module _ (vs : Encodings) (old : DeRonState) (i : Chars) where
   -- no name stands here
   pub name_not : {end : Position Token} {e : Report}
-      → ReadsNoneAndEnds Cut VariantBegins (position old i) end ended e
+      → ReadsNoneAndEnds Cut Breaks VariantBegins (position old i) end ended e
       → NoEnum ron_variants vs (position old i) end ended e
   name_not h = record {
     none = record {

@@ -43,15 +43,15 @@ module _ (name : List ℕ) {A : Type 0} (S : List Token → A → Type 0) {start
   }
 
   pub colon_not : {end : Position Token} {e : Report}
-      → ReadsNone Cut (AreTokens (start.at.token ∷ (colon ∷ []))) start end e
-      → ReadsNone Cut (EncodesNamed name S) start end e
+      → ReadsNone Cut Breaks (AreTokens (start.at.token ∷ (colon ∷ []))) start end e
+      → ReadsNone Cut Breaks (EncodesNamed name S) start end e
   colon_not bad =
       none_first Cut (EncodesNamed name S) (AreTokens (start.at.token ∷ (colon ∷ [])))
       (colon_leads ron_fields ron_laws name S start.at.token) bad
 
   pub value_not : {same_buffers : Type 0} {mid end : Position Token} {e : Report}
-      → Took Cut same_buffers start mid (start.at.token ∷ (colon ∷ [])) → ReadsNone Cut S mid end e
-      → ReadsNone Cut (EncodesNamed name S) start end e
+      → Took Cut same_buffers start mid (start.at.token ∷ (colon ∷ [])) → ReadsNone Cut Breaks S mid end e
+      → ReadsNone Cut Breaks (EncodesNamed name S) start end e
   value_not {mid = mid} h bad =
       none_in Cut (EncodesNamed name S) S (start.at.token ∷ (colon ∷ []))
       (value_leads ron_fields ron_laws name S start.at.token mid.at.token) h.taken h.place bad
@@ -60,7 +60,7 @@ module _ (name : List ℕ) {A : Type 0} (S : List Token → A → Type 0) {start
 
 -- without it nothing stands here, and with it neither
 pub divided_not : {A : Type 0} (S : List Token → A → Type 0) {start end : Position Token} {e : Report}
-    → ReadsNone Cut S start end e → ReadsNone Cut (Divided S) start end e
+    → ReadsNone Cut Breaks S start end e → ReadsNone Cut Breaks (Divided S) start end e
 divided_not S bad =
     none_first Cut (Divided S) S (λ us more rest next x d is.
     let joined = append_assoc d.0 (d.1 ∷ []) (next ∷ more) in
@@ -70,7 +70,7 @@ divided_not S bad =
 -- what encodes one thing encodes another
 divided_as : {A B : Type 0} (S : List Token → A → Type 0) (R : List Token → B → Type 0) {start end : Position Token}
     {e : Report} → ((us : List Token) (x : A) → S us x → (y : B) × R us y)
-    → ReadsNone Cut (Divided R) start end e → ReadsNone Cut (Divided S) start end e
+    → ReadsNone Cut Breaks (Divided R) start end e → ReadsNone Cut Breaks (Divided S) start end e
 divided_as S R into bad =
     none_as Cut (Divided S) (Divided R) (λ us x d.
     let y = into d.0 x d.3 in
@@ -81,11 +81,11 @@ divided_as S R into bad =
 -- nothing may come after it
 pub rejected_not : (name : List ℕ) {start mid : Position Token} {e : Report}
     → start.at.text ≡ text_at start.place start.input → mid ≡ start → IsMadeAt mid.place e
-    → ReadsNone Cut (OtherField name nothing_after) start mid e
+    → ReadsNone Cut Breaks (OtherField name nothing_after) start mid e
 rejected_not name {start} {mid} {e} text still made =
     let Value = OtherField name nothing_after in
     let none : (ts : List Token) (x : Unit {0}) → Value ts x → ⊥ = λ ts x v. v.2 in
-    subst (λ (p : Position Token). ReadsNone Cut Value start p e) (sym still)
+    subst (λ (p : Position Token). ReadsNone Cut Breaks Value start p e) (sym still)
     (fails_here (goes_wrong Cut Value start text (none []) (λ ts. none (start.at.token ∷ ts)))
     (subst (λ (p : Position Token). IsMadeAt p.place e) still made))
 
@@ -108,8 +108,8 @@ skipped_taken name unknown {start = start} {mid} {end} us is head_taken value wh
 -- the name and the colon were taken, and no such thing stands after them
 pub skipped_not : (name : List ℕ) (unknown : AfterUnknown) {same_buffers : Type 0} {start mid end : Position Token}
     {e : Report} → Took Cut same_buffers start mid (start.at.token ∷ (colon ∷ []))
-    → ReadsNone Cut (Divided (λ us (x : Unit {0}). unknown.Value us)) mid end e
-    → ReadsNone Cut (Divided (OtherField name unknown)) start end e
+    → ReadsNone Cut Breaks (Divided (λ us (x : Unit {0}). unknown.Value us)) mid end e
+    → ReadsNone Cut Breaks (Divided (OtherField name unknown)) start end e
 skipped_not name unknown {start = start} {mid} h bad =
     let Other = Divided (OtherField name unknown) in
     let Value : List Token → Unit {0} → Type 0 = λ us x. unknown.Value us in
@@ -130,7 +130,7 @@ opens_nothing t (inr e) f = let both = sym e ∙ f in cc both
 -- no field that may be skipped stands here, with what divides a list after it
 pub nothing_skipped : (old new : DeRonState) (i j : Chars) {e : Report}
     → Fails (NoField old i new j) (position old i) (position new j) e
-    → ReadsNone Cut (Divided Skips) (position old i) (position new j) e
+    → ReadsNone Cut Breaks (Divided Skips) (position old i) (position new j) e
 nothing_skipped old new i j h =
     none_as Cut (Divided Skips) SkipsBefore (λ ts x d. (
       tt,
@@ -181,12 +181,12 @@ module _ (unknown : AfterUnknown) (name : List ℕ) (struct : Struct Token) wher
                 (λ _ _ more k. h.whole more k) allowed;
           }
 
-      pub no_other : {e : Report} → ReadsNone Cut (Divided (OtherField name unknown)) mid end e
-          → ReadsNone Cut (Divided (FieldTokens (head name) name (Allowed unknown struct.shape))) start end e
+      pub no_other : {e : Report} → ReadsNone Cut Breaks (Divided (OtherField name unknown)) mid end e
+          → ReadsNone Cut Breaks (Divided (FieldTokens (head name) name (Allowed unknown struct.shape))) start end e
       no_other {e} h =
           let shape = struct.shape in
           let Value = FieldTokens (head name) name (Allowed unknown shape) in
-          subst (λ (p : Position Token). ReadsNone Cut (Divided Value) p end e) still
+          subst (λ (p : Position Token). ReadsNone Cut Breaks (Divided Value) p end e) still
           (divided_as Value (OtherField name unknown) (λ ts us f. (
             tt,
             (us, f.0, second_of (shape.knows name) (shape.takes name us) (unknown.Value us) none f.1),

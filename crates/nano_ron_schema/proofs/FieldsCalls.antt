@@ -45,8 +45,8 @@ module _ (unknown : AfterUnknown) (struct : Struct Token) where
   }
 
   pub opening_not : {start end : Position Token} {e : Report}
-      → ReadsNone Cut (AreTokens (paren_open ∷ [])) start end e
-      → ReadsNone Cut (EncodesFieldsWith unknown struct.shape) start end e
+      → ReadsNone Cut Breaks (AreTokens (paren_open ∷ [])) start end e
+      → ReadsNone Cut Breaks (EncodesFieldsWith unknown struct.shape) start end e
   opening_not {start} bad =
       none_first Cut (EncodesFieldsWith unknown struct.shape) (AreTokens (paren_open ∷ []))
       (struct_opening_leads (fields_with unknown) ron_laws struct start.at.token) bad
@@ -77,8 +77,8 @@ module _ (unknown : AfterUnknown) (struct : Struct Token) where
       }
 
       pub comma_not : {end : Position Token} {e : Report}
-          → Fails ((mid.at.token ≢ paren_close) × GoesWrong Cut (AreTokens (comma ∷ [])) mid end) mid end e
-          → ReadsNone Cut (EncodesFieldsWith unknown struct.shape) start end e
+          → Fails ((mid.at.token ≢ paren_close) × GoesWrong Cut Breaks (AreTokens (comma ∷ [])) mid end) mid end e
+          → ReadsNone Cut Breaks (EncodesFieldsWith unknown struct.shape) start end e
       comma_not bad =
           let moved = moves_append h.place field.read.place in
           let ts = fields_taken (fields_with unknown) ron_laws struct before start.at now.at h.read in
@@ -132,8 +132,8 @@ module _ (unknown : AfterUnknown) (struct : Struct Token) where
 
     pub field_not : {name : List ℕ} {end : Position Token} {e : Report} → now.at.token ≡ ident name
         → is_ident now.at.token ≡ true
-        → ReadsNone Cut (Divided (FieldTokens (head name) name (Allowed unknown struct.shape))) now end e
-        → ReadsNone Cut (EncodesFieldsWith unknown struct.shape) start end e
+        → ReadsNone Cut Breaks (Divided (FieldTokens (head name) name (Allowed unknown struct.shape))) now end e
+        → ReadsNone Cut Breaks (EncodesFieldsWith unknown struct.shape) start end e
     field_not {name} is named bad =
         let Field = Divided (EncodesField unknown struct.shape) in
         none_in Cut (EncodesFieldsWith unknown struct.shape) Field
@@ -151,8 +151,8 @@ module _ (unknown : AfterUnknown) (struct : Struct Token) where
     }
 
     pub closing_not : {end : Position Token} {e : Report} → is_ident now.at.token ≡ false
-        → ReadsNone Cut (AreTokens (paren_close ∷ [])) now end e
-        → ReadsNone Cut (EncodesFieldsWith unknown struct.shape) start end e
+        → ReadsNone Cut Breaks (AreTokens (paren_close ∷ [])) now end e
+        → ReadsNone Cut Breaks (EncodesFieldsWith unknown struct.shape) start end e
     closing_not none bad =
         none_in Cut (EncodesFieldsWith unknown struct.shape) (AreTokens (paren_close ∷ []))
         (fields_taken (fields_with unknown) ron_laws struct holds start.at now.at h.read)

@@ -36,14 +36,14 @@ use Rattle.nano_ron_tokens.specs.declared.token.DeRonTok.TheVariants.{Eof}
 abbrev pub TakesTokens : {A V : Type 0} → (A → List Token) → (List Token → V → Type 0)
     → Position Token → Position Token → Result A DeRonErr → Type 0
 TakesTokens tokens encodes start end result = MatchResult result
-    (λ x. Took Cut (Unit {0}) start end (tokens x)) (λ e. ReadsNone Cut encodes start end (report e))
+    (λ x. Took Cut (Unit {0}) start end (tokens x)) (λ e. ReadsNone Cut Breaks encodes start end (report e))
 
 -- the same, and an error leaves the state at the end of the text
 abbrev pub TakesTokensOrEnds : {A V : Type 0} → (A → List Token) → (List Token → V → Type 0)
     → Position Token → Position Token → Result A DeRonErr → Type 0
 TakesTokensOrEnds tokens encodes start end result = MatchResult result
     (λ x. Took Cut (Unit {0}) start end (tokens x))
-    (λ e. ReadsNoneAndEnds Cut encodes start end ended (report e))
+    (λ e. ReadsNoneAndEnds Cut Breaks encodes start end ended (report e))
 
 -- a call gives the pending word
 abbrev pub GivesWord : {Y : Type 0} → DeRonState → Result (String Y) DeRonErr → Type 0
@@ -58,7 +58,7 @@ module _ (name : List ℕ) (shape : Shape) (before after : List Field → Type 0
   abbrev pub ReadsField : Type 0 → Position Token → Position Token → Result Bool DeRonErr
       → Type 0
   ReadsField same start end result =
-      ReadsFieldBy Cut (head name) name shape before after same start end report result
+      ReadsFieldBy Cut Breaks (head name) name shape before after same start end report result
 
   -- the field of this name was read, or was one that may be skipped, and no longer value may
   -- stand there
@@ -74,7 +74,7 @@ module _ (name : List ℕ) (shape : Shape) (before after : List Field → Type 0
       → Result A DeRonErr → Type 0
   TakesField unknown start end result = MatchResult result
       (λ _. TookField unknown start end)
-      (λ e. ReadsNone Cut (Divided (FieldTokens (head name) name (Allowed unknown shape))) start end
+      (λ e. ReadsNone Cut Breaks (Divided (FieldTokens (head name) name (Allowed unknown shape))) start end
       (report e))
 
 -- this name was taken with a colon and what may come after a name that is not known, and no longer
@@ -96,14 +96,14 @@ abbrev pub TakesUnknown : {A : Type 0} → List ℕ → AfterUnknown → Positio
     → Result A DeRonErr → Type 0
 TakesUnknown name unknown start end result = MatchResult result
     (λ _. TookUnknown name unknown start end)
-    (λ e. ReadsNone Cut (Divided (OtherField name unknown)) start end (report e))
+    (λ e. ReadsNone Cut Breaks (Divided (OtherField name unknown)) start end (report e))
 
 -- a call reads the field of the one name, while the other is pending in its place
 abbrev pub ReadsUnder : {A : Type 0} → List ℕ → List ℕ → Shape → (List Field → Type 0)
     → (List Field → Type 0) → Position Token → Position Token → Result A DeRonErr → Type 0
 ReadsUnder own name shape before after start end result = MatchResult result
     (λ _. ReadField Cut (head name) own shape.takes before after start end)
-    (λ e. ReadsNone Cut (FieldTokens (head name) own shape.takes) start end (report e))
+    (λ e. ReadsNone Cut Breaks (FieldTokens (head name) own shape.takes) start end (report e))
 
 module _ (shape : Shape) (holds : List Field → Type 0) where
   -- a call gives values which mean what the fields do that are held

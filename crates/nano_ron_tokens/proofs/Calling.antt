@@ -65,7 +65,7 @@ made_there mid new e is made = (
 -- no value goes wrong where a reader gives up, but on the way there
 pub none_ended_there : {V : Type 0} (encodes : List Token → V → Type 0) {start : Position Token} (mid new : DeRonState)
     (j : Chars) (e : DeRonErr) → new ≡ record mid { tok = Eof; cur = 0 }
-    → ReadsNone Cut encodes start (position mid j) (report e) → ReadsNone Cut encodes start (position new j) (report e)
+    → ReadsNone Cut Breaks encodes start (position mid j) (report e) → ReadsNone Cut Breaks encodes start (position new j) (report e)
 none_ended_there encodes mid new j e is h = none_ended Cut encodes ended (gives_up mid new j is) h
 
 -- where no token is cut after the pending one, these are not taken

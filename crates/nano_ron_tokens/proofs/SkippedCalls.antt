@@ -57,7 +57,7 @@ content_leads name us more rest next v h is =
 
 -- so the one or the other reason says that none stands there before another token
 pub none_before_other : (old new : DeRonState) (i j : Chars) → NoField old i new j
-    → GoesWrong Cut SkipsBefore (position old i) (position new j)
+    → GoesWrong Cut Breaks SkipsBefore (position old i) (position new j)
 none_before_other old new i j (inl w) =
     let start = position old i in
     wrong_in Cut SkipsBefore Skips [] (field_leads start.at.token) refl (moves_none start.place start.input) w
@@ -134,7 +134,7 @@ module _ (old new : DeRonState) (i j : Chars) where
       }
 
   pub brackets_not : {e : Report} → is_scalar (pending old) ≡ false → is_opening (pending old) ≡ true
-      → ReadsNoneAndEnds Cut Brackets (position old i) (position new j) ended e
+      → ReadsNoneAndEnds Cut Breaks Brackets (position old i) (position new j) ended e
       → RejectsField old i new j e
   brackets_not other opening h = record {
     fails = fails_as (λ w. inl w)
@@ -175,7 +175,7 @@ module _ (old mid new : DeRonState) (i j k : Chars) (word : IsIdent (pending old
 
   -- whose content goes wrong
   pub content_not : {e : Report}
-      → ReadsNoneAndEnds Cut Brackets (position mid j) (position new k) ended e
+      → ReadsNoneAndEnds Cut Breaks Brackets (position mid j) (position new k) ended e
       → RejectsField old i new k e
   content_not x =
       let named = word_is (pending old) word in

@@ -108,7 +108,7 @@ module _ (old : DeRonState) (before : Chars) (new : DeRonState) (after : Chars) 
     pub word : Leaves Cut (ident name ∷ []) (at old before) middle.at
     pub opening : middle.at.token ≡ paren_open
     pub place : MovedTo (position old before) middle
-    pub content : GoesWrongBy Cut Brackets middle (position new after)
+    pub content : GoesWrongBy Cut Breaks Brackets middle (position new after)
 
   -- no skipped field stands here: none at all, or a word whose content goes wrong
   abbrev pub NoField : Type 0
@@ -129,7 +129,7 @@ module _ (old : DeRonState) (before : Chars) (new : DeRonState) (after : Chars) 
   -- brackets are taken with all between them; an error leaves the state at the end of the text
   abbrev pub TakesBrackets : {A : Type 0} → Result A DeRonErr → Type 0
   TakesBrackets result = MatchResult result (λ _. (ts : List Token) × TookBrackets ts)
-      (λ e. ReadsNoneAndEnds Cut Brackets (position old before) (position new after) ended
+      (λ e. ReadsNoneAndEnds Cut Breaks Brackets (position old before) (position new after) ended
       (report e))
 
   -- no brackets with all between them stand here

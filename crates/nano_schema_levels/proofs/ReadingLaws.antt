@@ -33,12 +33,12 @@ module _ {T : Type 0} {c : Cutting T} {g : Grammar T} {A : Type 0} (l : Nested c
 
   -- where nothing is read as values are seen, no value is
   pub seen_none : {last : At T} {e : Report}
-      → ReadsNoneAndEnds c.cut (l.layer.codec (level l (left - 1))).encoding.encodes start end last e
-      → ReadsNoneAndEnds c.cut (level l left).encoding.encodes start end last e
+      → ReadsNoneAndEnds c.cut c.breaks (l.layer.codec (level l (left - 1))).encoding.encodes start end last e
+      → ReadsNoneAndEnds c.cut c.breaks (level l left).encoding.encodes start end last e
   seen_none {last} {e} h =
       let n = left - 1 in
       let is : left ≡ suc n = omega (arith, more) in
-      subst (λ k. ReadsNoneAndEnds c.cut (level l k).encoding.encodes start end last e) (sym is)
+      subst (λ k. ReadsNoneAndEnds c.cut c.breaks (level l k).encoding.encodes start end last e) (sym is)
       (record {
         fails = none_as c.cut (level l (suc n)).encoding.encodes
             (l.layer.codec (level l n)).encoding.encodes

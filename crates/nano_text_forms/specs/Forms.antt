@@ -58,5 +58,5 @@ Reports fact Memory = Unit {0}
 
 -- the error is the reader's: the whole text, in its form, encodes no value
 abbrev pub RejectsWhole : Form → JsonEncoding → RonEncoding → List ℕ → Rejection → Type 0
-RejectsWhole Json json ron bytes = Reports (ReadsNoWhole JsonCut json.encodes bytes json_end)
-RejectsWhole Ron json ron bytes = Reports (ReadsNoWhole RonCut ron.encodes bytes ron_end)
+RejectsWhole Json json ron bytes = Reports (ReadsNoWhole JsonCut JsonBreaks json.encodes bytes json_end)
+RejectsWhole Ron json ron bytes = Reports (ReadsNoWhole RonCut RonBreaks ron.encodes bytes ron_end)

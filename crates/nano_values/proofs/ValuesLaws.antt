@@ -88,7 +88,7 @@ module _ {T : Type 0} {c : Cutting T} {g : Grammar T} (r : CutLaws c g) (bof : T
     }
 
     -- where the text goes wrong, nothing decodes
-    nothing_there : (start : At T) {end : Position T} {begun : Position T} → GoesWrong c.cut S begun end
+    nothing_there : (start : At T) {end : Position T} {begun : Position T} → GoesWrong c.cut c.breaks S begun end
         → begun.at ≡ start → DecodesToNothing c.cut S start
     nothing_there start {begun = begun} w is =
         subst (λ (z : At T). DecodesToNothing c.cut S z) is
@@ -96,7 +96,7 @@ module _ {T : Type 0} {c : Cutting T} {g : Grammar T} (r : CutLaws c g) (bof : T
 
     -- no value is encoded from the next token on, which is not the end
     pub no_value : {last : At T} {bytes : List ℕ} {old begun new : Position T} {e : Report}
-        → TakesFirst c.cut bof old begun → begun.at.token ≢ r.end → ReadsNoneAndEnds c.cut S begun new last e
+        → TakesFirst c.cut bof old begun → begun.at.token ≢ r.end → ReadsNoneAndEnds c.cut c.breaks S begun new last e
         → TakesNone c.cut S bof r.end last bytes old new e
     no_value {old = old} {begun} b other h = record {
       fails = record {

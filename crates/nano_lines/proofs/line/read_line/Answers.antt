@@ -12,7 +12,7 @@ returns-in_ok-copied-in-Err-clause-ok g c = record {
   utf8 = c.in-Ok.ensures.cases.1;
   error = c.in-Err.error;
   rejects =
-      subst (λ (l : List ℕ). ReadsNoWhole Cut g.T.JsonCodec.json.encoding.encodes l end (report c.in-Err.error))
+      subst (λ (l : List ℕ). ReadsNoWhole Cut Breaks g.T.JsonCodec.json.encoding.encodes l end (report c.in-Err.error))
       c.in-Ok.ensures.cases.0 c.in-Err.ensures;
   rejected = c.in_ok-rejection-in-Err.ensures.ok;
   text_is = c.in_ok-copied-in-Err.ensures.ok ∙ c.in-Ok.ensures.cases.0;

@@ -45,7 +45,7 @@ returns-in_err-text c =
     let start = position c.args.state.now c.args.input.now in
     let h = c.in_err-text.ensures in
     passed_on _ _ c.from_residual.result c.from_residual.ensures.1
-    (subst (λ (s : DeRonState). ReadsNone Cut texts.encodes start (position s c.args.input.now) (report c.in_err-text.field-0.0)) (sym h.unchanged)
+    (subst (λ (s : DeRonState). ReadsNone Cut Breaks texts.encodes start (position s c.args.input.now) (report c.in_err-text.field-0.0)) (sym h.unchanged)
     (one_not ron text text_tokens.carries IsText refl (λ x is _. h.lacks (subst IsStr (sym is) tt)) h.made))
 
 pub returns-in_err-next_tok : goal.returns-in_err-next_tok

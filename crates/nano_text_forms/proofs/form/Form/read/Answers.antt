@@ -40,10 +40,10 @@ pub returns-in_err-deserialize_json_whole-in-Json-clause-reported : goal.returns
 returns-in_err-deserialize_json_whole-in-Json-clause-reported g c =
     let p = err_from_is_err_and c.from_residual.result c.from_residual.ensures.1 in
     let e = c.in_err-deserialize_json_whole-in-Json.field-0.0 in
-    rw (p.1, c.in-Json.is) (passed_on (ReadsNoWhole JsonCut g.T.JsonCodec.json.encoding.encodes c.args.text.now json_end) e.memory e.msg e.line e.col p.0 p.2 c.in_err-deserialize_json_whole-in-Json.ensures)
+    rw (p.1, c.in-Json.is) (passed_on (ReadsNoWhole JsonCut JsonBreaks g.T.JsonCodec.json.encoding.encodes c.args.text.now json_end) e.memory e.msg e.line e.col p.0 p.2 c.in_err-deserialize_json_whole-in-Json.ensures)
 
 pub returns-in_err-deserialize_ron_whole-in-Ron-clause-reported : goal.returns-in_err-deserialize_ron_whole-in-Ron-clause-reported
 returns-in_err-deserialize_ron_whole-in-Ron-clause-reported g c =
     let p = err_from_is_err_and c.from_residual-in_err-deserialize_ron_whole-in-Ron.result c.from_residual-in_err-deserialize_ron_whole-in-Ron.ensures.1 in
     let e = c.in_err-deserialize_ron_whole-in-Ron.field-0.0 in
-    rw (p.1, c.in-Ron.is) (passed_on (ReadsNoWhole RonCut g.T.RonCodec.ron.encoding.encodes c.args.text.now ron_end) e.memory e.msg e.line e.col p.0 p.2 c.in_err-deserialize_ron_whole-in-Ron.ensures)
+    rw (p.1, c.in-Ron.is) (passed_on (ReadsNoWhole RonCut RonBreaks g.T.RonCodec.ron.encoding.encodes c.args.text.now ron_end) e.memory e.msg e.line e.col p.0 p.2 c.in_err-deserialize_ron_whole-in-Ron.ensures)
