@@ -14,7 +14,8 @@ use Rattle.nano_text.proofs.Numbers.{IsNumber-unique, IsNumber-shorter}
 use Rattle.nano_text.proofs.RemainingText.{remaining_more}
 use Rattle.nano_json_tokens.specs.Cut.{is_word, IsWord, IsRunOf, IsQuoted, Cut, IsPunctuator, IsEnd}
 use Rattle.nano_json_tokens.specs.Cut.{IsLexeme, punctuator, word, number, quoted, nothing}
-use Rattle.nano_json_tokens.specs.Outcomes.{Outgrows, NothingCut, NoCapacity}
+use Rattle.nano_grammar.specs.Faults.{NothingCut}
+use Rattle.nano_json_tokens.specs.Outcomes.{Outgrows, NoCapacity}
 use Rattle.nano_json_tokens.specs.Token.{Token, str, u64, i64, f64, bool, null, IsLiteral, colon}
 use Rattle.nano_json_tokens.specs.Token.{curly_open, curly_close, block_open, block_close, comma}
 use Rattle.nano_json_tokens.specs.Token.{end}
@@ -69,7 +70,7 @@ outgrows_same s m null a b c h = subst (λ u. string_capacity u < length (codes 
 outgrows_same s m _ a b c h = absurd h
 
 -- an error is out of memory, or reports that nothing is cut
-pub by_rejection : (r : Rejection) (s : DeJsonState) (text : List ℕ) → (r ≢ Memory → NothingCut text)
+pub by_rejection : (r : Rejection) (s : DeJsonState) (text : List ℕ) → (r ≢ Memory → NothingCut Cut text)
     → (r ≡ Memory → NoCapacity s text) → NoCapacity s text
 by_rejection Memory s text none capacity = capacity refl
 by_rejection _ s text none capacity = λ t rest cut. absurd (none (λ e. cc e) t rest cut)

@@ -9,6 +9,7 @@ use Rattle.nano_grammar.specs.Codec.{AreBrackets, ListStyle, PairStyle, TupleSty
 use Rattle.nano_json_tokens.specs.Token.{blocks, curlies, block_punctuation, curly_punctuation}
 use Rattle.nano_json_tokens.specs.Token.{Token, null, colon, comma}
 use Rattle.nano_text.specs.Characters.{is_space}
+use Rattle.nano_json_tokens.specs.Breaks.{Breaks}
 use Rattle.nano_json_tokens.specs.Cut.{Cut, AllSpace, json_grammar}
 use Rattle.nano_json_tokens.proofs.CutAgainLaws.{punctuator_is_cut, null_is_cut, null_textual}
 use Rattle.nano_json_tokens.specs.Written.{MayFollow}
@@ -26,7 +27,7 @@ space_is_skipped gap text rest t is h = record {
 }
 
 abbrev pub json : Cutting Token
-json = record { cut = Cut; IsGap = AllSpace; may_follow = MayFollow; skips = space_is_skipped }
+json = record { cut = Cut; breaks = Breaks; IsGap = AllSpace; may_follow = MayFollow; skips = space_is_skipped }
 
 -- ---- punctuation
 

@@ -27,11 +27,13 @@ word_token w =
     else if bytes_eq w (codes "null") then Some null
     else None
 
-module _ (shape : List ℕ → Token → List ℕ → Type 0) (old : DeJsonState) (before : Chars)
-    (new : DeJsonState) (after : Chars) where
-  -- no token of this shape stands here, or if one does, it outgrows its buffer
+module _ (shape : List ℕ → Token → List ℕ → Type 0) (breaks : List ℕ → List ℕ → Type 0)
+    (old : DeJsonState) (before : Chars) (new : DeJsonState) (after : Chars) where
+  -- no token of this shape stands here, and the state is where the text breaks; or if one does, it
+  -- outgrows its buffer
   pub record NotScanned (r : Rejection) : Type 0 where
     pub rejected : r ≢ Memory → NothingCut shape (remaining old.cur before)
+    pub broken : r ≢ Memory → breaks (remaining old.cur before) (remaining new.cur after)
     pub capacity : r ≡ Memory → (t : Token) (rest : List ℕ) → shape (remaining old.cur before) t rest
         → Outgrows old t
     pub place : Moved old before new after
@@ -70,6 +72,7 @@ module _ (old : DeJsonState) (before : Chars) (new : DeJsonState) (after : Chars
   -- the word is no token, or the buffer had no capacity for it
   pub record NotWord (r : Rejection) : Type 0 where
     pub rejected : r ≢ Memory → word_token (prefix is_word (remaining old.cur before)) ≡ None
+    pub rest : r ≢ Memory → remaining new.cur after ≡ following is_word (remaining old.cur before)
     pub capacity : r ≡ Memory
         → string_capacity old.identbuf < length (prefix is_word (remaining old.cur before))
     pub place : Moved old before new after

@@ -3,6 +3,7 @@
 
 ghost use Rattle.std.specs.Prelude.{◌≡◌, ℕ, List, IfSome, Some, true, false};
 ghost use Rattle.nano_text.specs.Characters.{is_space};
+ghost use Rattle.nano_json_tokens.specs.Breaks.{Breaks};
 ghost use Rattle.nano_json_tokens.specs.Cut.{Cut};
 ghost use Rattle.nano_json_tokens.specs.Scan.{punctuator_of, Scans};
 ghost use Rattle.nano_json_tokens.specs.State.{token_of};
@@ -21,7 +22,7 @@ impl DeJsonState {
     /// function takes any other token, so no error is written where a token is taken.
     #[inline(always)]
     pub(crate) fn scan_after_value(&mut self, i: &mut Chars<'_>) -> Result<(), Rejection>
-        ensures { Scans Cut self.old i.old self.new i.new result }
+        ensures { Scans Cut Breaks self.old i.old self.new i.new result }
     {
         if let Some(tok) = separator(self.cur) {
             self.next(i);
@@ -38,7 +39,7 @@ impl DeJsonState {
     /// Its first token is taken here, inlined. A separate function takes any other token.
     #[inline(always)]
     pub(crate) fn scan_value(&mut self, i: &mut Chars<'_>) -> Result<(), Rejection>
-        ensures { Scans Cut self.old i.old self.new i.new result }
+        ensures { Scans Cut Breaks self.old i.old self.new i.new result }
     {
         if starts_value(self.cur) {
             return self.take_lexeme(i);

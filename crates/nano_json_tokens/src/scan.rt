@@ -2,6 +2,8 @@
 
 ghost use Rattle.std.specs.Prelude.{◌≡◌, ◌≢◌, ℕ, List, None, false};
 ghost use Rattle.std.specs.Option.{option_map};
+ghost use Rattle.nano_text.specs.Breaks.{BreaksNumber, BreaksString};
+ghost use Rattle.nano_json_tokens.specs.Breaks.{Breaks, BreaksLexeme};
 ghost use Rattle.nano_json_tokens.specs.Cut.{starts_number, Cut, IsLexeme, IsRunOf};
 ghost use Rattle.nano_json_tokens.specs.Cut.{IsQuoted};
 ghost use Rattle.nano_json_tokens.specs.Scan.{punctuator_of, Scans, PassedSpace};
@@ -36,7 +38,7 @@ impl DeJsonState {
     /// the error was found.
     #[inline(never)]
     pub(crate) fn scan_token(&mut self, i: &mut Chars<'_>) -> Result<(), Rejection>
-        ensures { Scans Cut self.old i.old self.new i.new result }
+        ensures { Scans Cut Breaks self.old i.old self.new i.new result }
     {
         self.pass_space(i);
         self.take_lexeme(i)
@@ -74,7 +76,7 @@ impl DeJsonState {
     /// string or a punctuator; it may be another.
     #[inline(always)]
     pub(crate) fn take_lexeme(&mut self, i: &mut Chars<'_>) -> Result<(), Rejection>
-        ensures { Scans (λ text token rest. IsLexeme token text rest)
+        ensures { Scans (λ text token rest. IsLexeme token text rest) BreaksLexeme
             self.old i.old self.new i.new result }
     {
         if starts_number(self.cur) {
@@ -97,7 +99,7 @@ impl DeJsonState {
         requires no_number { starts_number self.old.cur ≡ false }
         requires no_string { self.old.cur ≢ 34 }
         requires no_punctuator { punctuator_of self.old.cur ≡ None }
-        ensures { Scans (λ text token rest. IsLexeme token text rest)
+        ensures { Scans (λ text token rest. IsLexeme token text rest) BreaksLexeme
             self.old i.old self.new i.new result }
     {
         if is_word(self.cur) {
@@ -113,7 +115,7 @@ impl DeJsonState {
     /// Takes the number that begins here.
     #[inline(always)]
     fn take_number(&mut self, i: &mut Chars<'_>) -> Result<(), Rejection>
-        ensures { Scans (λ text token rest. IsRunOf token text rest)
+        ensures { Scans (λ text token rest. IsRunOf token text rest) BreaksNumber
             self.old i.old self.new i.new result }
     {
         let mut place = self.place();
@@ -138,7 +140,7 @@ impl DeJsonState {
     /// Takes the string that begins here.
     #[inline(never)]
     fn take_string(&mut self, i: &mut Chars<'_>) -> Result<(), Rejection>
-        ensures { Scans (λ text token rest. IsQuoted token text rest)
+        ensures { Scans (λ text token rest. IsQuoted token text rest) BreaksString
             self.old i.old self.new i.new result }
     {
         let mut place = self.place();
