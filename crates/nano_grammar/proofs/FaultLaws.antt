@@ -5,7 +5,9 @@ use Rattle.std.proofs.Common.{append_assoc, append-nil}
 use Rattle.std.proofs.lemmas.List.{append_cancel_left}
 use Rattle.nano_text.proofs.PlaceLaws.{moves_append, moves_none, advances_ended}
 use Rattle.nano_text.proofs.RemainingText.{remaining_end}
-use Rattle.nano_text.specs.Place.{text_at}
+use Rattle.std.specs.declared.str.Chars.{Chars}
+use Rattle.nano_text.specs.declared.place.Place.{Place}
+use Rattle.nano_text.specs.Place.{text_at, Moves}
 use Rattle.nano_grammar.specs.Tokens.{At, Leaves, IsOneWay, DecodesToNothing}
 use Rattle.nano_grammar.specs.Faults.{NothingCut, AreTokens, Reason, wrong, uncut, MayFollow, Fault}
 use Rattle.nano_grammar.specs.Faults.{NoneBegins}
@@ -141,6 +143,25 @@ module _ {T : Type 0} {breaks : List ℕ → List ℕ → Type 0} where
     line = h.line;
     col = h.col;
   }
+
+  -- whatever token was pending before that text, at the same place
+  pub uncut_from : {cut : List ℕ → T → List ℕ → Type 0} {start other end : Position T}
+      → start.at.text ≡ other.at.text → start.place ≡ other.place → start.input ≡ other.input
+      → Uncut cut breaks start end → Uncut cut breaks other end
+  uncut_from {cut} {start} {other} text place input h =
+      let at = h.stands in
+      record {
+        none = subst (NothingCut cut) text h.none;
+        stands = record {
+          stop = at.stop;
+          input = at.input;
+          broken = subst (λ (l : List ℕ). breaks l (text_at at.stop at.input)) text at.broken;
+          moved = subst (λ (p : Place). Moves p other.input at.stop at.input) place
+              (subst (λ (i : Chars). Moves start.place i at.stop at.input) input at.moved);
+          line = at.line;
+          col = at.col;
+        };
+      }
 
 -- ==== the pending token
 

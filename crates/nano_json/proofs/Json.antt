@@ -4,7 +4,7 @@ use Rattle.std.specs.Str.Iter.{chars_rest}
 use Rattle.nano_text.specs.Place.{held, tail, before_nul, remaining, Passes}
 use Rattle.nano_text.proofs.PlaceLaws.{stands_in}
 use Rattle.nano_grammar.proofs.WholeInputs.{Begun}
-use Rattle.nano_grammar.proofs.TextPlaces.{stands_before, stands_from}
+use Rattle.nano_grammar.proofs.TextPlaces.{stands_before}
 use Rattle.nano_json_tokens.specs.Outcomes.{position}
 use Rattle.std.proofs.Common.{ℕ, List, chars, ◌≡◌, ◌≢◌, ◌<◌, ◌≤◌, ◌^◌, Bool, true, false, cond, []}
 use Rattle.std.proofs.Common.{length, refl, ap, sym, subst, ◌∙◌, arith}
@@ -102,6 +102,4 @@ begun fresh first i j bytes same line col passes left rest = record {
   stands = λ end e h made. stands_in (ap chars same) line col passes left rest h made.1 made.2;
   before = λ here lines columns is h at_line at_column.
       stands_before (ap chars same) line col passes left rest h is at_line at_column;
-  from = λ here end e is h more made.
-      stands_from (ap chars same) line col passes left rest h is more made.1 made.2;
 }

@@ -4,6 +4,7 @@ use Rattle.nano_grammar.specs.Outcomes.{ReadsText as ReadsTextBy, ReadsWhole as 
 use Rattle.nano_grammar.specs.Outcomes.{ReadsNoText}
 use Rattle.nano_grammar.specs.Tokens.{TextDecodesToNothing}
 use Rattle.nano_text.specs.Place.{remaining_text}
+use Rattle.nano_ron_tokens.specs.Breaks.{Breaks}
 use Rattle.nano_ron_tokens.specs.Cut.{Cut}
 use Rattle.nano_ron_tokens.specs.Outcomes.{report}
 use Rattle.nano_ron_tokens.specs.Token.{Token, end}

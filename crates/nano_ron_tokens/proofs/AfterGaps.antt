@@ -1,8 +1,11 @@
 -- What is cut after a gap.
-use Rattle.std.proofs.Common.{◌≡◌, ℕ, List, ◌++◌, inl, inr, sym, ◌∙◌, subst}
+use Rattle.std.proofs.Common.{◌≡◌, ℕ, List, [], ◌∷◌, ◌++◌, inl, inr, sym, ◌∙◌, subst, false}
+use Rattle.nano_text.specs.Characters.{first_is, is_space}
 use Rattle.nano_ron_tokens.specs.Token.{Token}
 use Rattle.nano_ron_tokens.specs.Cut.{IsLexeme, Cut, IsGap}
-use Rattle.nano_ron_tokens.specs.Outcomes.{NothingCut}
+use Rattle.nano_grammar.specs.Faults.{NothingCut}
+use Rattle.nano_ron_tokens.specs.Breaks.{Breaks, BreaksLexeme, number, quoted, single, slash, character}
+use Rattle.nano_ron_tokens.specs.Breaks.{Opens, itself, escaped, BreaksSingle, ended, unclosed}
 use Rattle.nano_ron_tokens.specs.Scan.{IsStop, BeginsNoComment, AfterGap}
 use Rattle.nano_ron_tokens.proofs.Cuts.{end_elsewhere, is_unended}
 use Rattle.nano_ron_tokens.proofs.LexemeKinds.{kind_at, the_end, only_end, lexeme_stops}
@@ -38,7 +41,40 @@ lexeme_cut text between rest t g h = record {
 }
 
 -- nothing is cut where a slash begins no comment
-pub none_cut : (text between : List ℕ) → AfterGap text between → kind_at between ≡ the_end → BeginsNoComment between → NothingCut text
+pub none_cut : (text between : List ℕ) → AfterGap text between → kind_at between ≡ the_end → BeginsNoComment between → NothingCut Cut text
 none_cut text between g kind none t rest h =
     let lexeme = cut_lexeme text between rest t g none.0 h in
     none.1 (is_unended t between rest (only_end t between rest kind lexeme))
+
+-- ---- where a text breaks
+
+opens_some : (after : List ℕ) → Opens [] after → ⊥
+opens_some after (itself is no) = cc is
+opens_some after (escaped is) = cc is
+
+single_some : (rest : List ℕ) → BreaksSingle [] rest → ⊥
+single_some rest (ended opens is) = opens_some [] opens
+single_some rest (unclosed c opens no) = opens_some (c ∷ rest) opens
+
+-- where nothing is left, nothing breaks
+breaks_some : (rest : List ℕ) → BreaksLexeme [] rest → ⊥
+breaks_some rest (number starts b) = cc starts
+breaks_some rest (quoted starts b) = cc starts
+breaks_some rest (single b) = single_some rest b
+breaks_some rest (slash b) = let is = b.is in cc is
+breaks_some rest (character b) = let is = b.is in cc is
+
+-- what begins with no lexeme after a gap begins with no token
+pub gap_breaks : (text between rest : List ℕ) → AfterGap text between → first_is is_space between ≡ false
+    → BreaksLexeme between rest → Breaks text rest
+gap_breaks text between rest g ends b = elim g.left [
+  | inl e ↦ record {
+    gap = g.gap;
+    body = g.body;
+    split = g.split;
+    skipped = g.skipped;
+    ends = subst (λ (body : List ℕ). first_is is_space body ≡ false) (sym e) ends;
+    lexeme = subst (λ (body : List ℕ). BreaksLexeme body rest) (sym e) b;
+  }
+  | inr u ↦ absurd (breaks_some rest (subst (λ (body : List ℕ). BreaksLexeme body rest) u.1 b))
+]

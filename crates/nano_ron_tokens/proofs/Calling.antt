@@ -14,8 +14,9 @@ use Rattle.nano_grammar.proofs.TokensLaws.{same_at}
 use Rattle.nano_grammar.proofs.TokenCalls.{fails_as, fails_ended, none_in}
 use Rattle.nano_grammar.proofs.TokenCalls.{ended_read as ended_read_by, took, rejects_next}
 use Rattle.nano_grammar.proofs.TokenCalls.{rejects_here, took_comma}
+use Rattle.nano_ron_tokens.specs.Breaks.{Breaks}
 use Rattle.nano_ron_tokens.specs.Cut.{Cut}
-use Rattle.nano_ron_tokens.specs.Outcomes.{report, position, IsMadeAt, NothingCut, NoneHere}
+use Rattle.nano_ron_tokens.specs.Outcomes.{report, position, IsMadeAt, Uncut, NoneHere}
 use Rattle.nano_ron_tokens.specs.Outcomes.{NoCapacity, Taken, NotTaken, NoColon, TakesNext}
 use Rattle.nano_ron_tokens.specs.Outcomes.{TakesOne, TakesComma, Reads, ReadsOrEnds, EndsOnError}
 use Rattle.nano_ron_tokens.specs.State.{at, ended, pending, KeepsOtherBuffers}
@@ -42,7 +43,7 @@ pub ended_read : {V A : Type 0} {mid new : DeRonState} {read result : Result A D
     → EndsOnError mid new read result → Reads encodes means start (position mid j) read
     → ReadsOrEnds encodes means start (position new j) result
 ended_read {mid = mid} {new} {read} {result} encodes means start j h r =
-    ended_read_by Cut encodes start (position mid j) (position new j) report means ended read result h.same
+    ended_read_by Cut Breaks encodes start (position mid j) (position new j) report means ended read result h.same
     (MatchResult-weaker read h.state (λ _ is. ap (λ (s : DeRonState). position s j) is) (λ _ is. gives_up mid new j is)) r
 
 -- ---- the next token
@@ -70,7 +71,7 @@ none_ended_there encodes mid new j e is h = none_ended Cut encodes ended (gives_
 
 -- where no token is cut after the pending one, these are not taken
 pub none_stopped : (t : Token) (ts : List Token) (old new : DeRonState) (i j : Chars) {e : Report}
-    → Fails (NothingCut (remaining old.cur i)) (position old i) (position new j) e
+    → Fails (Uncut old i new j) (position old i) (position new j) e
     → Fails (NoneHere (t ∷ ts) old i new j) (position old i) (position new j) e
 none_stopped t ts old new i j h = stopped_here Cut (AreTokens (t ∷ ts)) refl (λ v e. absurd (cc e)) h
 
@@ -150,10 +151,10 @@ module _ (old mid : DeRonState) (i j : Chars)
 
 -- where nothing can be cut after the pending token
 pub no_colon_uncut : (old new : DeRonState) (i k : Chars) (e : DeRonErr)
-    → Stops ended (NothingCut (remaining old.cur i)) (NoCapacity old (remaining old.cur i)) (position old i) (position new k) (report e)
+    → Stops ended (Uncut old i new k) (NoCapacity old (remaining old.cur i)) (position old i) (position new k) (report e)
     → NoColon old i new k e
 no_colon_uncut old new i k e h = record {
   fails = none_stopped (pending old) (colon ∷ []) old new i k h.fails;
-  other = λ known next cut other. absurd (h.fails.rejected known next.token next.text cut);
+  other = λ known next cut other. absurd ((h.fails.rejected known).none next.token next.text cut);
   left = inr (h.ended, λ t rest cut other. h.capacity t rest cut);
 }

@@ -10,7 +10,8 @@ use Rattle.nano_text.proofs.Numbers.{IsNumber-unique, IsNumber-shorter}
 use Rattle.nano_ron_tokens.specs.Cut.{is_word, IsWord, IsRunOf, IsQuoted, Cut, starts_word}
 use Rattle.nano_ron_tokens.specs.Cut.{IsPunctuator, IsCharacter, IsEnd, IsLexeme, punctuator, word}
 use Rattle.nano_ron_tokens.specs.Cut.{number, quoted, single, nothing}
-use Rattle.nano_ron_tokens.specs.Outcomes.{Outgrows, NothingCut, NoCapacity}
+use Rattle.nano_grammar.specs.Faults.{NothingCut}
+use Rattle.nano_ron_tokens.specs.Outcomes.{Outgrows, NoCapacity}
 use Rattle.nano_ron_tokens.specs.Token.{Token, ident, str, u64, i64, f64, bool, IsLiteral}
 use Rattle.nano_ron_tokens.specs.Token.{character, colon, curly_open, curly_close, paren_open}
 use Rattle.nano_ron_tokens.specs.Token.{paren_close, block_open, block_close, comma, end}
@@ -56,7 +57,7 @@ outgrows_same s m (ident name) a b c h = subst (λ u. string_capacity u < length
 outgrows_same s m _ a b c h = absurd h
 
 -- an error is out of memory, or says that nothing is cut
-pub by_rejection : (r : Rejection) (s : DeRonState) (text : List ℕ) → (r ≢ Memory → NothingCut text)
+pub by_rejection : (r : Rejection) (s : DeRonState) (text : List ℕ) → (r ≢ Memory → NothingCut Cut text)
     → (r ≡ Memory → NoCapacity s text) → NoCapacity s text
 by_rejection Memory s text none capacity = capacity refl
 by_rejection _ s text none capacity = λ t rest cut. absurd (none (λ e. cc e) t rest cut)

@@ -4,18 +4,13 @@ use Rattle.std.proofs.Common.{◌++◌, refl, sym, ◌∙◌, subst, ap, inl, in
 use Rattle.std.proofs.Common.{length-append, arith}
 use Rattle.nano_text.specs.Characters.{first_is, following, prefix}
 use Rattle.nano_text.specs.Characters.{is_space}
+use Rattle.nano_ron_tokens.specs.Breaks.{is_slash, is_star}
 use Rattle.nano_ron_tokens.specs.Cut.{IsOneLine, HoldsNoEnd, Skip, space, line, block}
 use Rattle.nano_ron_tokens.specs.Cut.{IsSkip, skip_text, IsUnended}
 use Rattle.nano_ron_tokens.proofs.RonLaws.{no_gap}
 use Rattle.nano_ron_tokens.specs.Scan.{IsStop, AfterLine, AfterBlock, AfterComment, BeginsNoComment}
 use Rattle.nano_ron_tokens.specs.Scan.{AfterGap}
 use Rattle.nano_ron_tokens.proofs.Skipping.{slash_is_no_space, line_is, block_is}
-
-abbrev pub is_slash : ℕ → Bool
-is_slash c = c == 47
-
-abbrev pub is_star : ℕ → Bool
-is_star c = c == 42
 
 -- ---- a line
 

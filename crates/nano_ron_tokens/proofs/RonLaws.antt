@@ -9,6 +9,7 @@ use Rattle.nano_grammar.specs.Codec.{AreBrackets}
 use Rattle.nano_grammar.proofs.TokensLaws.{textual_append}
 use Rattle.nano_ron_tokens.specs.Token.{blocks, curlies, parens, block_punctuation}
 use Rattle.nano_ron_tokens.specs.Token.{curly_punctuation, paren_punctuation, Token, colon, comma}
+use Rattle.nano_ron_tokens.specs.Breaks.{Breaks}
 use Rattle.nano_ron_tokens.specs.Cut.{Cut, IsLexeme, IsPunctuator as IsPunctuatorOf, punctuator}
 use Rattle.nano_ron_tokens.specs.Cut.{IsGap, IsSkip, space, skip_text, ron_grammar}
 use Rattle.nano_ron_tokens.specs.Written.{indent, MayFollow}
@@ -36,7 +37,7 @@ gap_is_skipped gap text rest t is h = record {
 }
 
 abbrev pub ron : Cutting Token
-ron = record { cut = Cut; IsGap = IsGap; may_follow = MayFollow; skips = gap_is_skipped }
+ron = record { cut = Cut; breaks = Breaks; IsGap = IsGap; may_follow = MayFollow; skips = gap_is_skipped }
 
 -- ---- gaps that are written
 

@@ -1,19 +1,23 @@
 -- What one scan comes to, from what the scans inside it come to.
 use Rattle.std.proofs.Common.{◌≡◌, ◌≢◌, ℕ, List, true, Result, string_bytes, sym, subst, ap, ◌∙◌}
 use Rattle.std.proofs.Common.{◌<◌, ◌≤◌, [], ◌∷◌, ◌++◌, Bool, false, cond, IsUtf8, encode_utf8_all}
-use Rattle.std.proofs.Common.{refl, arith}
+use Rattle.std.proofs.Common.{refl, arith, Ok, Err, MatchResult, OnErr, ◌==◌}
+use Rattle.std.proofs.lemmas.Bool.{or_parts}
 use Rattle.std.proofs.lemmas.Result.{MatchResult-weaker}
 use Rattle.std.specs.declared.str.Chars.{Chars}
 use Rattle.std.specs.List.{AllByRecursion}
 use Rattle.std.proofs.lemmas.Bool.Decides.{nat_tests}
 use Rattle.std.proofs.lemmas.Str.{encode_ascii}
-use Rattle.nano_text.specs.Place.{remaining, Moves, IsInLine}
+use Rattle.nano_text.specs.Place.{remaining, before_nul, held, text_at, Moves, IsInLine}
+use Rattle.nano_text.proofs.RemainingText.{remaining_more}
 use Rattle.nano_text.proofs.PlaceLaws.{moves_none, moves_append, moves_advance}
 use Rattle.nano_text.specs.declared.place.Place.{Place}
-use Rattle.nano_grammar.specs.Outcomes.{Stops}
+use Rattle.nano_grammar.specs.Outcomes.{Position, Stops, StandsBroken}
+use Rattle.nano_grammar.proofs.FaultLaws.{broken_there, broken_ended}
+use Rattle.nano_ron_tokens.specs.Breaks.{Breaks, BreaksLexeme, BreaksCharacter}
 use Rattle.nano_ron_tokens.specs.Cut.{Cut, IsLexeme, is_word}
-use Rattle.nano_ron_tokens.specs.Outcomes.{report, position, Reports, Moved, NothingCut, NoCapacity}
-use Rattle.nano_ron_tokens.specs.Scan.{NotScanned, Scans, Passed, SkipsGaps}
+use Rattle.nano_ron_tokens.specs.Outcomes.{report, position, Reports, Moved, Uncut, NoCapacity}
+use Rattle.nano_ron_tokens.specs.Scan.{NotScanned, Scans, Passed, SkipsGaps, starts_gap}
 use Rattle.nano_ron_tokens.specs.State.{ended, pending, place_of}
 use Rattle.nano_ron_tokens.specs.Token.{Token}
 use Rattle.nano_ron_tokens.specs.declared.error.DeRonErr.{DeRonErr}
@@ -23,9 +27,10 @@ use Rattle.nano_ron_tokens.specs.declared.state.DeRonState.{DeRonState}
 use Rattle.nano_ron_tokens.specs.declared.token.DeRonTok.TheVariants.{Eof}
 use Rattle.nano_ron_tokens.proofs.Calling.{gives_up, fails_ended_there, made_there}
 use Rattle.nano_ron_tokens.proofs.Capacity.{by_rejection, outgrows_same}
-use Rattle.nano_ron_tokens.proofs.AfterGaps.{lexeme_cut, cut_lexeme}
+use Rattle.nano_ron_tokens.proofs.AfterGaps.{lexeme_cut, cut_lexeme, gap_breaks}
+use Rattle.nano_ron_tokens.proofs.LexemeKinds.{kind_of, no_token, only_none}
 use Rattle.nano_ron_tokens.proofs.Skipping.{first_stops}
-use Rattle.nano_text.specs.Characters.{prefix}
+use Rattle.nano_text.specs.Characters.{prefix, first_is, is_space}
 use Rattle.nano_text.proofs.InLine.{prefix_in_line}
 use Rattle.nano_text.proofs.Utf8Prefixes.{CutAfterPrefix, cut_narrow}
 
@@ -41,14 +46,33 @@ moved_at old mid new p q i j from to h =
     subst (λ (r : Place). Moves (place_of old) i r j) (sym (ap place_of to))
     (subst (λ (r : Place). Moves r i q j) from h)
 
+-- and where its text broke there, it breaks here
+pub broken_at : (old mid new : DeRonState) (p q : Place) (i j : Chars) → p ≡ place_of old
+    → new ≡ record mid { cur = q.cur; line = q.line; col = q.col } → (breaks : List ℕ → List ℕ → Type 0)
+    → breaks (text_at p i) (text_at q j) → breaks (remaining old.cur i) (remaining new.cur j)
+broken_at old mid new p q i j from to breaks h =
+    subst (λ (c : ℕ). breaks (remaining old.cur i) (remaining c j)) (sym (ap (λ (s : DeRonState). s.cur) to))
+    (subst (λ (r : Place). breaks (remaining r.cur i) (text_at q j)) from h)
+
+-- a state that gives up is on the line and column where it stood
+stands_failed : (mid new : DeRonState) (j : Chars) {start : Position Token} → new ≡ record mid { tok = Eof; cur = 0 }
+    → StandsBroken Breaks start (position mid j) → StandsBroken Breaks start (position new j)
+stands_failed mid new j {start} is h =
+    subst (λ (p : Position Token). StandsBroken Breaks start p) (sym (gives_up mid new j is)) (broken_ended ended h)
+
 -- an error where a token could not be scanned
 pub scan_stops : (old mid new : DeRonState) (i j : Chars) (r : Rejection) (e : DeRonErr)
-    → NotScanned Cut old i mid j r → new ≡ record mid { tok = Eof; cur = 0 }
+    → NotScanned Cut Breaks old i mid j r → new ≡ record mid { tok = Eof; cur = 0 }
     → Reports new (r ≢ Memory) e
-    → Stops ended (NothingCut (remaining old.cur i)) (NoCapacity old (remaining old.cur i)) (position old i) (position new j) (report e)
+    → Stops ended (Uncut old i new j) (NoCapacity old (remaining old.cur i)) (position old i) (position new j) (report e)
 scan_stops old mid new i j r e h is made = record {
   fails = fails_ended_there mid new j e is (record {
-    rejected = λ known. h.rejected (made.0 known);
+    rejected = λ known.
+        let other = made.0 known in
+        record {
+          none = h.rejected other;
+          stands = stands_failed mid new j is (broken_there (h.broken other) h.place);
+        };
     made = made_there mid new e is made.1;
     place = moves_advance h.place;
   });
@@ -56,25 +80,50 @@ scan_stops old mid new i j r e h is made = record {
   capacity = by_rejection r old (remaining old.cur i) h.rejected h.capacity;
 }
 
--- tokens of one shape are those of another
-pub scans_as : {A : Type 0} (S R : List ℕ → Token → List ℕ → Type 0) (old new : DeRonState) (i j : Chars)
+-- tokens of one shape are those of another, and so is where a text breaks
+pub scans_as : {A : Type 0} (S R : List ℕ → Token → List ℕ → Type 0) (B D : List ℕ → List ℕ → Type 0)
+    (old new : DeRonState) (i j : Chars)
     → ((t : Token) (rest : List ℕ) → S (remaining old.cur i) t rest → R (remaining old.cur i) t rest)
     → ((t : Token) (rest : List ℕ) → R (remaining old.cur i) t rest → S (remaining old.cur i) t rest)
-    → (r : Result A Rejection) → Scans S old i new j r → Scans R old i new j r
-scans_as S R old new i j to from r h =
+    → ((rest : List ℕ) → B (remaining old.cur i) rest → D (remaining old.cur i) rest)
+    → (r : Result A Rejection) → Scans S B old i new j r → Scans R D old i new j r
+scans_as S R B D old new i j to from breaks r h =
     MatchResult-weaker r h
     (λ _ x. record { taken = to (pending new) (remaining new.cur j) x.taken; buffers = x.buffers; place = x.place })
     (λ _ x. record {
       rejected = λ known t rest l. x.rejected known t rest (from t rest l);
+      broken = λ known. breaks (remaining new.cur j) (x.broken known);
       capacity = λ memory t rest l. x.capacity memory t rest (from t rest l);
       place = x.place;
     })
 
+-- an error of which two things hold
+pub both_hold : {A E Q : Type 0} {P : A → Type 0} {R : E → Type 0} (r : Result A E) → MatchResult r P R
+    → OnErr r Q → MatchResult r P (λ e. R e × Q)
+both_hold (Ok x) h k = h
+both_hold (Err e) h k = (h, k)
+
+-- a character that begins no lexeme
+pub character_breaks : (cur : ℕ) (i : Chars) → cur ≢ 0 → kind_of cur ≡ no_token
+    → BreaksCharacter (remaining cur i) (remaining cur i)
+character_breaks cur i some kind = record {
+  first = cur;
+  after = before_nul (held i);
+  is = remaining_more cur i some;
+  none = λ t more left h. only_none t (cur ∷ more) left kind h;
+  all = refl;
+}
+
+-- where no gap begins, no white space does
+no_space_there : (text : List ℕ) → first_is starts_gap text ≡ false → first_is is_space text ≡ false
+no_space_there [] h = refl
+no_space_there (c ∷ cs) h = (or_parts (is_space c) (c == 47) h).0
+
 -- a lexeme after a gap is a token
 pub scans_spaced : {A : Type 0} (old mid new : DeRonState) (i j k : Chars) → Passed old i mid j
     → SkipsGaps (remaining old.cur i) (remaining mid.cur j) true
-    → (r : Result A Rejection) → Scans (λ text token rest. IsLexeme token text rest) mid j new k r
-    → Scans Cut old i new k r
+    → (r : Result A Rejection) → Scans (λ text token rest. IsLexeme token text rest) BreaksLexeme mid j new k r
+    → Scans Cut Breaks old i new k r
 scans_spaced old mid new i j k passed gap r h =
     let from = λ (t : Token) (rest : List ℕ) (l : Cut (remaining old.cur i) t rest).
     cut_lexeme (remaining old.cur i) (remaining mid.cur j) rest t gap.0 (first_stops (remaining mid.cur j) gap.1) l in
@@ -90,6 +139,9 @@ scans_spaced old mid new i j k passed gap r h =
     })
     (λ _ x. record {
       rejected = λ known t rest l. x.rejected known t rest (from t rest l);
+      broken = λ known.
+          gap_breaks (remaining old.cur i) (remaining mid.cur j) (remaining new.cur k) gap.0
+          (no_space_there (remaining mid.cur j) gap.1) (x.broken known);
       capacity = λ memory t rest l. outgrows_same old mid t passed.strbuf passed.numbuf passed.identbuf (x.capacity memory t rest (from t rest l));
       place = moves_append passed.place x.place;
     })

@@ -9,8 +9,9 @@ use Rattle.nano_grammar.proofs.TokenCalls.{fails_as, fails_after, none_first}
 use Rattle.nano_grammar.specs.Tokens.{Leaves}
 use Rattle.nano_grammar.specs.Outcomes.{Report, GoesWrong, TookNext, Stops, RejectsToken, ReadsNoneAndEnds}
 use Rattle.nano_ron_tokens.specs.Token.{Token, ident, paren_open, IsIdent}
+use Rattle.nano_ron_tokens.specs.Breaks.{Breaks}
 use Rattle.nano_ron_tokens.specs.Cut.{Cut}
-use Rattle.nano_ron_tokens.specs.Outcomes.{position, Keeps, NothingCut, NoCapacity}
+use Rattle.nano_ron_tokens.specs.Outcomes.{position, Keeps, Uncut, NoCapacity}
 use Rattle.nano_ron_tokens.specs.Scan.{is_scalar, is_opening}
 use Rattle.nano_ron_tokens.specs.Skipped.{SkippedField, IsBracketed, Brackets, Skips, SkipsBefore}
 use Rattle.nano_ron_tokens.specs.Skipped.{NoField, TookField, TookBrackets, BeginsField, IsScalar}
@@ -109,7 +110,7 @@ module _ (old new : DeRonState) (i j : Chars) where
 
   -- no token is cut after it
   pub one_not : {e : Report} → IsScalar (pending old)
-      → Stops ended (NothingCut (remaining old.cur i)) (NoCapacity old (remaining old.cur i)) (position old i) (position new j) e
+      → Stops ended (Uncut old i new j) (NoCapacity old (remaining old.cur i)) (position old i) (position new j) e
       → RejectsField old i new j e
   one_not scalar h = record {
     fails = fails_as (λ w. inl w) (stopped_here Cut Skips refl (λ _. skipped_some) h.fails);

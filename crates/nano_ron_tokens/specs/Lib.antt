@@ -1,4 +1,5 @@
 pub mod Token
+pub mod Breaks
 pub mod Cut
 pub mod State
 pub mod Skipped

@@ -7,7 +7,7 @@ use Rattle.nano_text.specs.Place.{remaining, text_at, Moves}
 use Rattle.nano_grammar.specs.Tokens.{At, Cuts, Leaves}
 use Rattle.nano_grammar.specs.Outcomes.{Report, Position, IsMadeAt as MadeAt, Fails, Stops}
 use Rattle.nano_grammar.specs.Outcomes.{RejectsToken, TookNext, Took, TookComma}
-use Rattle.nano_grammar.specs.Outcomes.{NothingCut as NothingCutBy, Reads as ReadsBy, Read}
+use Rattle.nano_grammar.specs.Outcomes.{Uncut as UncutBy, Reads as ReadsBy, Read}
 use Rattle.nano_grammar.specs.Outcomes.{Moved as MovedTo}
 use Rattle.nano_grammar.specs.Outcomes.{ReadsOrEnds as ReadsOrEndsBy, GoesWrong as GoesWrongBy}
 use Rattle.nano_text.specs.declared.place.Place.{Place}
@@ -21,6 +21,7 @@ use Rattle.nano_ron_tokens.specs.State.{out_of_range, below_range, above_range, 
 use Rattle.nano_ron_tokens.specs.State.{place_of, KeepsOtherBuffers}
 use Rattle.nano_ron_tokens.specs.Token.{Token, str, u64, f64, bool, colon, comma, ident, integer_of}
 use Rattle.nano_ron_tokens.specs.Token.{truth_of, IsStr, IsIdent}
+use Rattle.nano_ron_tokens.specs.Breaks.{Breaks}
 use Rattle.nano_ron_tokens.specs.Cut.{Cut}
 
 -- ---- errors
@@ -61,9 +62,9 @@ Moved old before new after = Moves (place_of old) before (place_of new) after
 
 -- ---- what is not there
 
--- no token is cut from the text
-abbrev pub NothingCut : List ℕ → Type 0
-NothingCut text = NothingCutBy Cut text
+-- no token is cut after the pending one, and the state stands where that text breaks
+abbrev pub Uncut : DeRonState → Chars → DeRonState → Chars → Type 0
+Uncut old before new after = UncutBy Cut Breaks (position old before) (position new after)
 
 -- no value is encoded from here on: it goes wrong on the way to there
 abbrev pub GoesWrong : {V : Type 0} → (List Token → V → Type 0) → DeRonState → Chars → DeRonState → Chars
@@ -104,7 +105,7 @@ module _ (old : DeRonState) (before : Chars) (new : DeRonState) (after : Chars) 
   abbrev pub TakesNext : {A : Type 0} → Result A DeRonErr → Type 0
   TakesNext result = MatchResult result
       (λ _. TookNext Cut (KeepsOtherBuffers old new) (position old before) (position new after))
-      (λ e. Stops ended (NothingCut (remaining old.cur before))
+      (λ e. Stops ended (Uncut old before new after)
       (NoCapacity old (remaining old.cur before)) (position old before) (position new after)
       (report e))
 

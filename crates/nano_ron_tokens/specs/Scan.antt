@@ -10,6 +10,7 @@ use Rattle.nano_grammar.specs.Outcomes.{HoldsNul, end_message}
 use Rattle.nano_ron_tokens.specs.declared.scan.Rejection.{Rejection}
 use Rattle.nano_ron_tokens.specs.declared.scan.Rejection.TheVariants.{Memory}
 use Rattle.nano_ron_tokens.specs.declared.state.DeRonState.{DeRonState}
+use Rattle.nano_ron_tokens.specs.Breaks.{Breaks, BreaksSlash}
 use Rattle.nano_ron_tokens.specs.Cut.{Cut, is_word, Skip, IsSkip, skip_text, IsGap, IsUnended}
 use Rattle.nano_text.specs.Characters.{is_space}
 use Rattle.nano_ron_tokens.specs.Cut.{IsOneLine, HoldsNoEnd, IsLexeme}
@@ -27,11 +28,13 @@ word_token w =
     else if bytes_eq w (codes "false") then bool false
     else ident w
 
-module _ (shape : List ℕ → Token → List ℕ → Type 0) (old : DeRonState) (before : Chars)
-    (new : DeRonState) (after : Chars) where
-  -- no token of this shape stands here, or if one does, it outgrows its buffer
+module _ (shape : List ℕ → Token → List ℕ → Type 0) (breaks : List ℕ → List ℕ → Type 0)
+    (old : DeRonState) (before : Chars) (new : DeRonState) (after : Chars) where
+  -- no token of this shape stands here, and the state is where the text breaks; or if one does, it
+  -- outgrows its buffer
   pub record NotScanned (r : Rejection) : Type 0 where
     pub rejected : r ≢ Memory → NothingCut shape (remaining old.cur before)
+    pub broken : r ≢ Memory → breaks (remaining old.cur before) (remaining new.cur after)
     pub capacity : r ≡ Memory → (t : Token) (rest : List ℕ)
         → shape (remaining old.cur before) t rest → Outgrows old t
     pub place : Moved old before new after
@@ -152,13 +155,13 @@ pub record AfterGap (text rest : List ℕ) : Type 0 where
 -- a comment is passed over, or none begins here
 abbrev pub SkipsComment : List ℕ → List ℕ → Bool → Type 0
 SkipsComment text rest true = AfterComment text rest
-SkipsComment text rest false = BeginsNoComment text
+SkipsComment text rest false = BeginsNoComment text × BreaksSlash text rest
 
 -- white space and comments are passed over, and no more follow; or a `/` begins no comment, and so
--- nothing is cut
+-- nothing is cut, and the text breaks there
 abbrev pub SkipsGaps : List ℕ → List ℕ → Bool → Type 0
 SkipsGaps text rest true = AfterGap text rest × (first_is starts_gap rest ≡ false)
-SkipsGaps text rest false = NothingCut Cut text
+SkipsGaps text rest false = NothingCut Cut text × Breaks text rest
 
 -- ==== the characters that are still to be read
 

@@ -1,10 +1,12 @@
 //! How a reader's state takes the next token: a gap, and one lexeme.
 
-ghost use Rattle.std.specs.Prelude.{◌≡◌, ℕ, List, MatchResult, IfSome, Some, false};
+ghost use Rattle.std.specs.Prelude.{◌≡◌, ℕ, List, MatchResult, OnErr, IfSome, Some, false};
 ghost use Rattle.std.specs.Option.{option_map};
 ghost use Rattle.nano_text.specs.Characters.{first_is};
 ghost use Rattle.nano_text.specs.Place.{remaining};
 ghost use Rattle.nano_grammar.specs.Outcomes.{NothingCut};
+ghost use Rattle.nano_text.specs.Breaks.{BreaksNumber, BreaksString};
+ghost use Rattle.nano_ron_tokens.specs.Breaks.{Breaks, BreaksLexeme, BreaksSingle};
 ghost use Rattle.nano_ron_tokens.specs.Cut.{starts_number, Cut, IsLexeme, IsRunOf, IsQuoted};
 ghost use Rattle.nano_ron_tokens.specs.Cut.{IsCharacter};
 ghost use Rattle.nano_ron_tokens.specs.Outcomes.{Moved};
@@ -47,7 +49,7 @@ impl DeRonState {
     /// is taken.
     #[inline(always)]
     pub(crate) fn scan_after_value(&mut self, i: &mut Chars<'_>) -> Result<(), Rejection>
-        ensures { Scans Cut self.old i.old self.new i.new result }
+        ensures { Scans Cut Breaks self.old i.old self.new i.new result }
     {
         if let Some(tok) = separator(self.cur) {
             self.next(i);
@@ -60,7 +62,7 @@ impl DeRonState {
     /// Takes the next token, whatever it is.
     #[inline(never)]
     pub(crate) fn scan_token(&mut self, i: &mut Chars<'_>) -> Result<(), Rejection>
-        ensures { Scans Cut self.old i.old self.new i.new result }
+        ensures { Scans Cut Breaks self.old i.old self.new i.new result }
     {
         if !self.skip_gaps(i) {
             return Err(Rejection::Comment);
@@ -71,7 +73,7 @@ impl DeRonState {
     /// Takes the token that begins here, where no gap stands.
     fn take_lexeme(&mut self, i: &mut Chars<'_>) -> Result<(), Rejection>
         requires { first_is starts_gap (remaining self.old.cur i.old) ≡ false }
-        ensures { Scans (λ text token rest. IsLexeme token text rest)
+        ensures { Scans (λ text token rest. IsLexeme token text rest) BreaksLexeme
             self.old i.old self.new i.new result }
     {
         if let Some(tok) = punctuator(self.cur) {
@@ -100,7 +102,7 @@ impl DeRonState {
 
     /// Takes the number that begins here.
     fn take_number(&mut self, i: &mut Chars<'_>) -> Result<(), Rejection>
-        ensures { Scans (λ text token rest. IsRunOf token text rest)
+        ensures { Scans (λ text token rest. IsRunOf token text rest) BreaksNumber
             self.old i.old self.new i.new result }
     {
         let mut place = self.place();
@@ -124,7 +126,7 @@ impl DeRonState {
 
     /// Takes the string that begins here.
     fn take_string(&mut self, i: &mut Chars<'_>) -> Result<(), Rejection>
-        ensures { Scans (λ text token rest. IsQuoted token text rest)
+        ensures { Scans (λ text token rest. IsQuoted token text rest) BreaksString
             self.old i.old self.new i.new result }
     {
         let mut place = self.place();
@@ -151,6 +153,8 @@ impl DeRonState {
             (λ r. (r ≡ Rejection.Character)
             × NothingCut (λ text token rest. IsCharacter token text rest)
             (remaining self.old.cur i.old)) }
+        ensures broken { OnErr result (BreaksSingle (remaining self.old.cur i.old)
+            (remaining self.new.cur i.new)) }
         ensures place { Moved self.old i.old self.new i.new }
     {
         self.next(i);

@@ -1,15 +1,17 @@
-use Rattle.std.proofs.Common.{rules, ◌≡◌, sym, subst, ◌<◌, length, string_bytes, refl}
+use Rattle.std.proofs.Common.{rules, ◌≡◌, sym, subst, ap, ◌<◌, length, string_bytes, refl}
 use Rattle.std.proofs.lemmas.Str.{IsUtf8-string_bytes}
 use Rattle.std.specs.declared.str.Chars.{Chars}
 use Rattle.nano_text.specs.Place.{remaining, Advances, Moves}
 use Rattle.nano_value.specs.Meaning.{IsText, text, usize_bound}
-use Rattle.nano_grammar.specs.Outcomes.{Position, Report, Fails, TookNext, ReadsNone}
+use Rattle.nano_grammar.specs.Outcomes.{Position, Report, Fails, TookNext, ReadsNone, Uncut}
+use Rattle.nano_grammar.proofs.FaultLaws.{uncut_from}
 use Rattle.nano_grammar.proofs.TokenCalls.{passed_on}
 use Rattle.nano_grammar.proofs.ReadingCalls.{one_read, one_not, one_stopped}
+use Rattle.nano_ron_tokens.specs.Breaks.{Breaks}
 use Rattle.nano_ron_tokens.specs.Cut.{Cut}
 use Rattle.nano_ron_tokens.proofs.RonLaws.{ron}
 use Rattle.nano_ron_tokens.proofs.ScalarsLaws.{text_tokens}
-use Rattle.nano_ron_tokens.specs.Outcomes.{NothingCut, position, report}
+use Rattle.nano_ron_tokens.specs.Outcomes.{position, report}
 use Rattle.nano_ron_tokens.specs.State.{place_of}
 use Rattle.nano_ron_tokens.specs.Token.{Token, IsStr}
 use Rattle.nano_ron_tokens.specs.declared.state.DeRonState.{DeRonState}
@@ -25,10 +27,10 @@ module _ (old mid : DeRonState) (i : Chars) (end : Position Token) (is : mid ≡
     place = subst (λ (s : DeRonState). Moves (place_of s) i end.place end.input) is h.place;
   }
 
-  stopped_from : {e : Report} → Fails (NothingCut (remaining mid.cur i)) (position mid i) end e
-      → Fails (NothingCut (remaining old.cur i)) (position old i) end e
+  stopped_from : {e : Report} → Fails (Uncut Cut Breaks (position mid i) end) (position mid i) end e
+      → Fails (Uncut Cut Breaks (position old i) end) (position old i) end e
   stopped_from h = record {
-    rejected = λ known. subst (λ (s : DeRonState). NothingCut (remaining s.cur i)) is (h.rejected known);
+    rejected = λ known. uncut_from (ap (λ (s : DeRonState). remaining s.cur i) is) (ap place_of is) refl (h.rejected known);
     made = h.made;
     place = subst (λ (s : DeRonState). Advances (place_of s) i end.place end.input) is h.place;
   }

@@ -4,7 +4,8 @@ use Rattle.nano_ron_tokens.proofs.state.DeRonState.scan_token.Goals as goal
 
 pub returns-then-not-skip_gaps : goal.returns-then-not-skip_gaps
 returns-then-not-skip_gaps c = record {
-  rejected = λ known. c.if-not-skip_gaps.ensures.skipped;
+  rejected = λ known. c.if-not-skip_gaps.ensures.skipped.0;
+  broken = λ known. c.if-not-skip_gaps.ensures.skipped.1;
   capacity = λ memory. search rules;
   place = c.skip_gaps.ensures.passed.place;
 }

@@ -2,7 +2,8 @@ use Rattle.std.proofs.Common.{◌≡◌, ◌∙◌, ap, refl, false, ne_eqb, ari
 use Rattle.nano_text.proofs.RemainingText.{remaining_end, remaining_stop}
 use Rattle.nano_text.specs.Characters.{first_is}
 use Rattle.nano_text.specs.Place.{remaining}
-use Rattle.nano_ron_tokens.proofs.Comments.{is_slash, block_step, block_ends, block_over}
+use Rattle.nano_ron_tokens.specs.Breaks.{is_slash}
+use Rattle.nano_ron_tokens.proofs.Comments.{block_step, block_ends, block_over}
 use Rattle.nano_ron_tokens.proofs.Scanning.{passed_none, passed_next, passed_append}
 use Rattle.nano_ron_tokens.proofs.state.DeRonState.skip_block.Goals as goal
 use Rattle.nano_ron_tokens.proofs.state.DeRonState.skip_block.Goals.{else-star-via-then-star+else-self-eq47}

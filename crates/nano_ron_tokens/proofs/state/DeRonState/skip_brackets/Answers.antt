@@ -1,8 +1,8 @@
 use Rattle.std.proofs.Common.{◌≡◌, ℕ, arith, sym, subst, refl}
 use Rattle.nano_text.proofs.RemainingText.{remaining_fewer}
-use Rattle.nano_text.proofs.PlaceLaws.{moves_append, moves_none, moves_advance}
+use Rattle.nano_text.proofs.PlaceLaws.{moves_append, moves_none}
 use Rattle.nano_grammar.specs.Faults.{uncut}
-use Rattle.nano_grammar.proofs.FaultLaws.{uncut_token}
+use Rattle.nano_grammar.proofs.FaultLaws.{uncut_token, broken_there}
 use Rattle.nano_ron_tokens.specs.Cut.{Cut}
 use Rattle.nano_ron_tokens.specs.Outcomes.{position}
 use Rattle.nano_ron_tokens.specs.Skipped.{Brackets}
@@ -27,7 +27,7 @@ returns-in_err-scan_after_value c =
             moved = moves_none start.place start.input;
             reason = uncut none;
             fault = uncut_token Cut Brackets start.at none (λ _. bracket_some brackets);
-            stands = moves_advance c.in_err-scan_after_value.ensures.place;
+            stands = broken_there (c.in_err-scan_after_value.ensures.broken known) c.in_err-scan_after_value.ensures.place;
           };
       place = c.in_err-scan_after_value.ensures.place;
     })
@@ -85,7 +85,8 @@ returns-in_err-scan_after_value-2 c =
       rejected = λ known.
           uncut_in_brackets brackets (position c.args.self.now c.args.i.now) (position c.tokens.self c.tokens.i)
           (position c.scan_after_value-in-tokens.new.self c.scan_after_value-in-tokens.new.i) c.tokens.depth
-          c.tokens.invariant.counting c.tokens-test.true (c.in_err-scan_after_value-2.ensures.rejected known) refl
+          c.tokens.invariant.counting c.tokens-test.true (c.in_err-scan_after_value-2.ensures.rejected known)
+          (c.in_err-scan_after_value-2.ensures.broken known) refl
           c.tokens.invariant.place c.in_err-scan_after_value-2.ensures.place;
       place = moves_append c.tokens.invariant.place c.in_err-scan_after_value-2.ensures.place;
     })

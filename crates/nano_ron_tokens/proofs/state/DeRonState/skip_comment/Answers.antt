@@ -2,7 +2,7 @@ use Rattle.std.proofs.Common.{arith, refl, ne_eqb}
 use Rattle.nano_text.proofs.RemainingText.{remaining_stop}
 use Rattle.nano_text.specs.Place.{remaining}
 use Rattle.nano_ron_tokens.proofs.Comments.{line_comment_at, block_comment_at, no_comment_at}
-use Rattle.nano_ron_tokens.proofs.Comments.{is_slash, is_star}
+use Rattle.nano_ron_tokens.specs.Breaks.{is_slash, is_star}
 use Rattle.nano_ron_tokens.proofs.Scanning.{passed_next, passed_append}
 use Rattle.nano_ron_tokens.proofs.state.DeRonState.skip_comment.Goals as goal
 
@@ -42,9 +42,12 @@ pub returns-clause-skipped : goal.returns-clause-skipped
 returns-clause-skipped c =
     let cur = c.args.self.now.cur in
     let next = c.next.new.self.cur in
-    no_comment_at cur (remaining cur c.args.i.now) (remaining next c.next.new.i) (c.next.ensures.taken (λ z. omega (arith, z, c.requires))) c.requires
-    (remaining_stop is_slash next c.next.new.i refl (ne_eqb next 47 c.if-self-eq47.false))
-    (remaining_stop is_star next c.next.new.i refl (ne_eqb next 42 c.if-self-eq42.false))
+    let taken = c.next.ensures.taken (λ z. omega (arith, z, c.requires)) in
+    let no_line = remaining_stop is_slash next c.next.new.i refl (ne_eqb next 47 c.if-self-eq47.false) in
+    let no_block = remaining_stop is_star next c.next.new.i refl (ne_eqb next 42 c.if-self-eq42.false) in (
+      no_comment_at cur (remaining cur c.args.i.now) (remaining next c.next.new.i) taken c.requires no_line no_block,
+      record { is = rw (taken, c.requires) refl; no_line = no_line; no_block = no_block },
+    )
 
 pub returns-clause-passed : goal.returns-clause-passed
 returns-clause-passed c = let e = c.next.ensures in passed_next (e.counts (λ z. omega (arith, z, c.requires))) e.tok e.strbuf e.numbuf e.identbuf

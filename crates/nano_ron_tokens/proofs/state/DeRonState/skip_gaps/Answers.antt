@@ -6,7 +6,8 @@ use Rattle.nano_text.specs.Characters.{is_space}
 use Rattle.nano_ron_tokens.specs.Scan.{starts_gap, AfterGap}
 use Rattle.nano_text.proofs.Spaces.{no_space, after_fewer}
 use Rattle.nano_ron_tokens.proofs.Comments.{gap_over, spaces_more, comment_more, comment_shorter}
-use Rattle.nano_ron_tokens.proofs.AfterGaps.{none_cut}
+use Rattle.nano_ron_tokens.specs.Breaks.{slash}
+use Rattle.nano_ron_tokens.proofs.AfterGaps.{none_cut, gap_breaks}
 use Rattle.nano_ron_tokens.proofs.Scanning.{passed_append}
 use Rattle.nano_ron_tokens.proofs.LexemeKinds.{kind_of, kind_remaining, kind_slash}
 use Rattle.nano_ron_tokens.proofs.state.DeRonState.skip_gaps.Goals as goal
@@ -22,12 +23,17 @@ comments-init c =
     }
 
 pub returns-then-not-skip_comment-clause-skipped : goal.returns-then-not-skip_comment-clause-skipped
-returns-then-not-skip_comment-clause-skipped c t rest cut =
+returns-then-not-skip_comment-clause-skipped c =
     let cur = c.comments.self.cur in
+    let text = remaining c.args.self.now.cur c.args.i.now in
     let between = remaining cur c.comments.i in
+    let after = c.comments.invariant.following between (gap_over between) in
     let kind = kind_remaining cur c.comments.i ∙ (ap kind_of c.comments-test.true ∙ kind_slash) in
-    none_cut (remaining c.args.self.now.cur c.args.i.now) between (c.comments.invariant.following between (gap_over between)) kind
-    c.if-not-skip_comment.ensures.skipped t rest cut
+    let stops = c.if-not-skip_comment.ensures.skipped in (
+      none_cut text between after kind stops.0,
+      gap_breaks text between (remaining c.skip_comment.new.self.cur c.skip_comment.new.i) after
+      (remaining_stop is_space cur c.comments.i refl c.comments.invariant.no_space) (slash stops.1),
+    )
 
 pub returns-then-not-skip_comment-clause-passed : goal.returns-then-not-skip_comment-clause-passed
 returns-then-not-skip_comment-clause-passed c = passed_append c.comments.invariant.passed c.skip_comment.ensures.passed
