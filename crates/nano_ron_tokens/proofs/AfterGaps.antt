@@ -49,12 +49,12 @@ none_cut text between g kind none t rest h =
 -- ---- where a text breaks
 
 opens_some : (after : List ℕ) → Opens [] after → ⊥
-opens_some after (itself is no) = cc is
+opens_some after (itself is _) = cc is
 opens_some after (escaped is) = cc is
 
 single_some : (rest : List ℕ) → BreaksSingle [] rest → ⊥
 single_some rest (ended opens is) = opens_some [] opens
-single_some rest (unclosed c opens no) = opens_some (c ∷ rest) opens
+single_some rest (unclosed c opens _) = opens_some (c ∷ rest) opens
 
 -- where nothing is left, nothing breaks
 breaks_some : (rest : List ℕ) → BreaksLexeme [] rest → ⊥

@@ -98,10 +98,10 @@ scans_as S R B D old new i j to from breaks r h =
     })
 
 -- an error of which two things hold
-pub both_hold : {A E Q : Type 0} {P : A → Type 0} {R : E → Type 0} (r : Result A E) → MatchResult r P R
-    → OnErr r Q → MatchResult r P (λ e. R e × Q)
-both_hold (Ok x) h k = h
-both_hold (Err e) h k = (h, k)
+pub both_hold : {A E : Type 0} (P : A → Type 0) (R : E → Type 0) (Q : Type 0) (r : Result A E)
+    → MatchResult r P R → OnErr r Q → MatchResult r P (λ e. R e × Q)
+both_hold P R Q (Ok x) h k = h
+both_hold P R Q (Err e) h k = (h, k)
 
 -- a character that begins no lexeme
 pub character_breaks : (cur : ℕ) (i : Chars) → cur ≢ 0 → kind_of cur ≡ no_token

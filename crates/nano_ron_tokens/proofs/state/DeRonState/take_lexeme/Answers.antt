@@ -54,7 +54,7 @@ returns-then-self-eq39 c =
     let cur = c.args.self.now.cur in
     let kind = kind_remaining cur c.args.i.now ∙ (ap kind_of c.if-self-eq39.true ∙ kind_single) in
     let place = c.take_character.ensures.place in
-    MatchResult-weaker c.take_character.result (both_hold c.take_character.result c.take_character.ensures.taken c.take_character.ensures.broken)
+    MatchResult-weaker c.take_character.result (both_hold _ _ _ c.take_character.result c.take_character.ensures.taken c.take_character.ensures.broken)
     (λ _ h. record { taken = single h.0; buffers = h.1; place = place })
     (λ _ both. let h = both.0 in record {
       rejected = λ known t rest l. h.1 t rest (only_single t (remaining cur c.args.i.now) rest kind l);
