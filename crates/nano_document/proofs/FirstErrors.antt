@@ -1,18 +1,18 @@
 -- What the readers of texts know of the first error.
-use Rattle.std.proofs.Common.{◌≡◌, ◌∙◌, inl, inr, ℕ, List, [], ◌∷◌, ◌++◌, chars, sym}
+use Rattle.std.proofs.Common.{◌≡◌, ◌∙◌, inl, inr, ℕ, List, [], ◌∷◌, ◌++◌, sym}
 use Rattle.std.proofs.Common.{ap, refl, subst, false, append_assoc, append-nil}
 use Rattle.std.proofs.lemmas.List.{append_cancel_left}
-use Rattle.nano_text.specs.Place.{remaining_text, text_at}
-use Rattle.nano_text.proofs.PlaceLaws.{moves_append}
-use Rattle.nano_grammar.specs.Faults.{NothingCut, Reason, wrong, uncut, Fault}
-use Rattle.nano_grammar.specs.Outcomes.{Report, Position, IsMadeAt, Moved, Fails, Stops, TookNext}
-use Rattle.nano_grammar.specs.Outcomes.{StandsAt, StandsBefore, StandsFrom, StandsInText}
+use Rattle.nano_text.specs.Place.{remaining_text}
+use Rattle.nano_grammar.specs.Faults.{Reason, wrong, uncut, Fault}
+use Rattle.nano_grammar.specs.Outcomes.{Report, Position, Fails, Stops, TookNext, Uncut}
 use Rattle.nano_grammar.specs.Outcomes.{IsValueError, ReadsNoWhole, end_message}
 use Rattle.nano_grammar.specs.Tokens.{At, Leaves}
 use Rattle.nano_grammar.proofs.FaultLaws.{nothing_goes_past}
 use Rattle.nano_grammar.proofs.TokensLaws.{meets, same_at}
 use Rattle.nano_grammar.proofs.TokenCalls.{fails_as}
-use Rattle.nano_grammar.proofs.WholeInputs.{Begun, text_uncut, text_not, whole_not}
+use Rattle.nano_grammar.proofs.WholeInputs.{Begun, text_uncut, text_not, whole_not, in_text}
+use Rattle.nano_grammar.proofs.WholeInputs.{breaks_at_once, breaks_at_once_too, stands_too}
+use Rattle.nano_json_tokens.specs.Breaks.{Breaks}
 use Rattle.nano_json_tokens.specs.Cut.{Cut}
 use Rattle.nano_json_tokens.specs.Token.{Token, end as last}
 use Rattle.nano_json.proofs.Json.{json_laws}
@@ -25,21 +25,13 @@ module _ {V : Type 0} (S : List Token → V → Type 0) {bytes : List ℕ} {star
     (b : Begun bytes start) where
   -- where no token is cut from the text
   pub uncut_first : {after : At Token} {full : Type 0} {end : Position Token} {e : Report}
-      → Stops after (NothingCut Cut start.at.text) full start end e → FailsFirst S bytes e
+      → Stops after (Uncut Cut Breaks start end) full start end e → FailsFirst S bytes e
   uncut_first h = record {
     none = text_uncut json_laws S b h;
-    first = λ known. inl (subst (NothingCut Cut) b.text (h.fails.rejected known));
+    first = λ known. inl (breaks_at_once json_laws S b (h.fails.rejected known) h.fails.made);
   }
 
   module _ {buffered : Type 0} {now : Position Token} (next : TookNext Cut buffered start now) where
-    in_text : (here end : Position Token) (e : Report) (reason : Reason Cut here.at)
-        → here.at.text ≡ text_at here.place here.input → Moved now here → StandsAt Cut Breaks here end reason
-        → IsMadeAt end.place e → StandsInText Cut Breaks S bytes reason e
-    in_text here end e wrong text moved at made =
-        b.before here e.line e.col text (moves_append next.place moved) (made.1 ∙ at.0) (made.2 ∙ at.1)
-    in_text here end e (uncut none) text moved at made =
-        b.from here end e text (moves_append next.place moved) at made
-
     -- where it goes wrong first
     pub wrong_first : {end : Position Token} {e : Report} → Fails (GoesWrongFirst S now end) now end e
         → FailsFirst S bytes e
@@ -55,7 +47,7 @@ module _ {V : Type 0} (S : List Token → V → Type 0) {bytes : List ℕ} {star
               here = w.here.at;
               reason = w.reason;
               fault = w.fault;
-              stands = in_text w.here end e w.reason w.text w.moved w.stands h.made;
+              stands = in_text json_laws S b next w.here end e w.reason w.text w.moved w.stands h.made;
             };
             before = f.before;
           });
@@ -64,17 +56,8 @@ module _ {V : Type 0} (S : List Token → V → Type 0) {bytes : List ℕ} {star
 -- ---- of the whole input
 
 module _ {V : Type 0} (S : List Token → V → Type 0) (bytes : List ℕ) {e f : Report} (is : IsValueError e f) where
-  stands_too : (here : At Token) (reason : Reason Cut here) → StandsInText Cut Breaks S bytes reason e
-      → StandsInText Cut Breaks S bytes reason f
-  stands_too here wrong at =
-      subst (λ (l : ℕ). StandsBefore (chars bytes) here.text l f.col) (sym is.line)
-      (subst (λ (k : ℕ). StandsBefore (chars bytes) here.text e.line k) (sym is.col) at)
-  stands_too here (uncut none) at =
-      subst (λ (l : ℕ). StandsFrom (chars bytes) here.text l f.col) (sym is.line)
-      (subst (λ (k : ℕ). StandsFrom (chars bytes) here.text e.line k) (sym is.col) at)
-
   first_too : IsFirstError S bytes e → IsFirstError S bytes f
-  first_too (inl none) = inl none
+  first_too (inl h) = inl (breaks_at_once_too Cut Breaks S bytes is h)
   first_too (inr h) = inr (record {
     wrong = record {
       first = h.wrong.first;
@@ -82,7 +65,7 @@ module _ {V : Type 0} (S : List Token → V → Type 0) (bytes : List ℕ) {e f 
       here = h.wrong.here;
       reason = h.wrong.reason;
       fault = h.wrong.fault;
-      stands = stands_too h.wrong.here h.wrong.reason h.wrong.stands;
+      stands = stands_too Cut Breaks S bytes is h.wrong.here h.wrong.reason h.wrong.stands;
     };
     before = h.before;
   })

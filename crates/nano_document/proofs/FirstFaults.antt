@@ -15,6 +15,7 @@ use Rattle.nano_grammar.proofs.Reading.{one_some, one_other}
 use Rattle.nano_grammar.proofs.TokenCalls.{fails_after, fails_as, fails_here}
 use Rattle.nano_grammar.proofs.TokensLaws.{leaves_append}
 use Rattle.nano_json_tokens.proofs.JsonLaws.{json}
+use Rattle.nano_json_tokens.specs.Breaks.{Breaks}
 use Rattle.nano_json_tokens.specs.Cut.{Cut}
 use Rattle.nano_json_tokens.specs.Outcomes.{position, Reads}
 use Rattle.nano_json_tokens.specs.Token.{Token, null, colon, comma, block_open, curly_open, str}

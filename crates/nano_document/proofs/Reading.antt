@@ -14,6 +14,7 @@ use Rattle.nano_grammar.proofs.TokensLaws.{leaves_append}
 use Rattle.nano_grammar.proofs.PartReading.{first_leads, punctuator_leads, second_leads}
 use Rattle.nano_grammar.proofs.TokenCalls.{fails_here, fails_as}
 use Rattle.nano_grammar.proofs.Reading.{image_spans, image_encodes}
+use Rattle.nano_json_tokens.specs.Breaks.{Breaks}
 use Rattle.nano_json_tokens.specs.Cut.{Cut}
 use Rattle.nano_json_tokens.specs.Cut.{json_grammar}
 use Rattle.nano_json_tokens.proofs.JsonLaws.{json}

@@ -2,10 +2,11 @@
 -- with that and what stands next.
 use Rattle.std.specs.Prelude.{◌≡◌, ◌≢◌, ◌⊎◌, ◌++◌, ℕ, List, [], ◌∷◌, false, Result, MatchResult}
 use Rattle.nano_text.specs.Place.{remaining_text}
-use Rattle.nano_grammar.specs.Faults.{NothingCut, Reason, wrong, uncut}
+use Rattle.nano_grammar.specs.Faults.{Reason, wrong, uncut}
 use Rattle.nano_grammar.specs.Outcomes.{Report, Position, Fails, Read, GoesWrong, end_message}
-use Rattle.nano_grammar.specs.Outcomes.{WholeDecodesTo, TextGoesWrong, ReadsNoText, ReadsNoWhole}
+use Rattle.nano_grammar.specs.Outcomes.{WholeDecodesTo, BreaksAtOnce, TextGoesWrong, ReadsNoText, ReadsNoWhole}
 use Rattle.nano_grammar.specs.Tokens.{At, TextDecodesTo}
+use Rattle.nano_json_tokens.specs.Breaks.{Breaks}
 use Rattle.nano_json_tokens.specs.Cut.{Cut}
 use Rattle.nano_json_tokens.specs.Outcomes.{report}
 use Rattle.nano_json_tokens.specs.Token.{Token, end as last}
@@ -50,7 +51,7 @@ module _ {V : Type 0} (encodes : List Token → V → Type 0) where
 
     -- the error is the first one of the text: no token begins it, or it goes wrong there
     abbrev pub IsFirstError : Report → Type 0
-    IsFirstError e = NothingCut Cut (remaining_text bytes) ⊎ TextGoesWrongFirst e
+    IsFirstError e = BreaksAtOnce Cut Breaks encodes bytes e ⊎ TextGoesWrongFirst e
 
     -- a text goes wrong first at one place
     abbrev pub HasOneFirstError : Type 0

@@ -21,7 +21,7 @@ use Rattle.nano_grammar.specs.Outcomes.{HoldsNul, DecodesBefore, WholeDecodesTo,
 use Rattle.nano_grammar.specs.Outcomes.{WholeDecodesToNothing, end_message, Report, Position}
 use Rattle.nano_grammar.specs.Outcomes.{IsMadeAt, Moved, NothingCut, Stops, TookNext, Read, ReadsNone}
 use Rattle.nano_grammar.specs.Outcomes.{IsValueError, StandsAt, StandsBefore, StandsBroken, StandsInText}
-use Rattle.nano_grammar.specs.Outcomes.{BreaksInText, Uncut}
+use Rattle.nano_grammar.specs.Outcomes.{BreaksInText, BreaksAtOnce, Uncut}
 use Rattle.nano_grammar.specs.Outcomes.{IsNoText, ReadsNoText, ReadsNoWhole}
 use Rattle.nano_grammar.specs.Faults.{Reason, wrong, uncut}
 use Rattle.nano_grammar.proofs.FaultLaws.{nothing_decodes}
@@ -168,7 +168,7 @@ module _ {T : Type 0} {c : Cutting T} {g : Grammar T} (r : CutLaws c g) {V : Typ
   -- where no token begins the text, or it goes wrong, nothing decodes
   pub no_text : {bytes : List ℕ} {e : Report} → IsNoText c.cut c.breaks S bytes e
       → TextDecodesToNothing c.cut S (remaining_text bytes)
-  no_text (inl none) v f = none.0 f.0.token f.0.text f.1
+  no_text (inl h) v f = h.none f.0.token f.0.text f.1
   no_text {bytes} (inr w) v f =
       let same = same_at c.cut r.one_way (remaining_text bytes) f.0 w.first f.1 w.is_first in
       nothing_decodes c.cut S r.one_way w.first w.here w.reason w.fault v
@@ -192,17 +192,18 @@ module _ {T : Type 0} {c : Cutting T} {g : Grammar T} (r : CutLaws c g) {V : Typ
       }
 
   -- where no token is cut from the text
+  pub breaks_at_once : {end : Position T} {e : Report} → Uncut c.cut c.breaks start end → IsMadeAt end.place e
+      → BreaksAtOnce c.cut c.breaks S bytes e
+  breaks_at_once {end} {e} h made = record {
+    none = subst (NothingCut c.cut) b.text h.none;
+    there = subst (λ (t : List ℕ). BreaksInText c.cut c.breaks S bytes t e) b.text
+        (breaks_in_text start end e (moves_none start.place start.input) h.stands made);
+  }
+
   pub text_uncut : {last : At T} {full : Type 0} {end : Position T} {e : Report}
       → Stops last (Uncut c.cut c.breaks start end) full start end e → ReadsNoText c.cut c.breaks S bytes e
   text_uncut {end = end} {e} h = record {
-    fault = λ known.
-        let uncut = h.fails.rejected known in
-        let moved = moves_none start.place start.input in
-        inl (
-          subst (NothingCut c.cut) b.text uncut.none,
-          subst (λ (t : List ℕ). BreaksInText c.cut c.breaks S bytes t e) b.text
-          (breaks_in_text start end e moved uncut.stands h.fails.made),
-        );
+    fault = λ known. inl (breaks_at_once (h.fails.rejected known) h.fails.made);
     silent = h.fails.made.0;
     place = b.stands end e h.fails.place h.fails.made;
   }
@@ -215,7 +216,7 @@ module _ {T : Type 0} {c : Cutting T} {g : Grammar T} (r : CutLaws c g) {V : Typ
         → TextDecodesTo c.cut S (remaining_text bytes) v
     text_read {end} h = (now.at, first_cut, (h.decodes.0, end.at, h.decodes.1, h.decodes.2))
 
-    in_text : (here end : Position T) (e : Report) (reason : Reason c.cut here.at)
+    pub in_text : (here end : Position T) (e : Report) (reason : Reason c.cut here.at)
         → here.at.text ≡ text_at here.place here.input → Moved now here → StandsAt c.cut c.breaks here end reason
         → IsMadeAt end.place e → StandsInText c.cut c.breaks S bytes reason e
     in_text here end e wrong text moved at made =
@@ -289,13 +290,16 @@ module _ {T V : Type 0} (cut : List ℕ → T → List ℕ → Type 0) (breaks :
   breaks_too : {text : List ℕ} → BreaksInText cut breaks S bytes text e → BreaksInText cut breaks S bytes text f
   breaks_too at = record { left = at.left; broken = at.broken; stands = stands_before_too at.left at.stands }
 
-  stands_too : (here : At T) (reason : Reason cut here) → StandsInText cut breaks S bytes reason e
+  pub stands_too : (here : At T) (reason : Reason cut here) → StandsInText cut breaks S bytes reason e
       → StandsInText cut breaks S bytes reason f
   stands_too here wrong at = stands_before_too here.text at
   stands_too here (uncut none) at = breaks_too at
 
+  pub breaks_at_once_too : BreaksAtOnce cut breaks S bytes e → BreaksAtOnce cut breaks S bytes f
+  breaks_at_once_too h = record { none = h.none; there = breaks_too h.there }
+
   goes_wrong_too : IsNoText cut breaks S bytes e → IsNoText cut breaks S bytes f
-  goes_wrong_too (inl none) = inl (none.0, breaks_too none.1)
+  goes_wrong_too (inl h) = inl (breaks_at_once_too h)
   goes_wrong_too (inr w) = inr (record {
     first = w.first;
     is_first = w.is_first;

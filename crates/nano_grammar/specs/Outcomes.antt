@@ -224,10 +224,14 @@ module _ {T V : Type 0} (cut : List ℕ → T → List ℕ → Type 0) (breaks :
     pub fault : Fault cut encodes first here reason
     pub stands : StandsInText reason e
 
-  -- no token begins the text, and the error stands where it breaks; or it goes wrong
+  -- no token begins the text, and the error stands where it breaks
+  pub record BreaksAtOnce (e : Report) : Type 0 where
+    pub none : NothingCut cut (remaining_text bytes)
+    pub there : BreaksInText (remaining_text bytes) e
+
+  -- no token begins the text, or it goes wrong
   abbrev pub IsNoText : Report → Type 0
-  IsNoText e = (NothingCut cut (remaining_text bytes) × BreaksInText (remaining_text bytes) e)
-      ⊎ TextGoesWrong e
+  IsNoText e = BreaksAtOnce e ⊎ TextGoesWrong e
 
   -- a value begins the text, and the error stands at the token after it
   pub record TextGoesOn (e : Report) : Type 0 where

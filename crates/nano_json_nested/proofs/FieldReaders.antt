@@ -4,6 +4,7 @@ use Rattle.nano_grammar.specs.Outcomes.{Position, Report, Took, TookComma, Reads
 use Rattle.nano_grammar.specs.Tokens.{Leaves}
 use Rattle.nano_grammar.proofs.FaultLaws.{LeadsTo, first_token}
 use Rattle.nano_grammar.proofs.TokenCalls.{none_first}
+use Rattle.nano_json_tokens.specs.Breaks.{Breaks}
 use Rattle.nano_json_tokens.specs.Cut.{Cut}
 use Rattle.nano_json_tokens.specs.Token.{Token, str, colon, comma, curly_open, curly_close}
 use Rattle.nano_json_schema.specs.FieldCodecs.{passed_over}

@@ -6,6 +6,7 @@ use Rattle.nano_grammar.specs.Outcomes.{Position, ReadsNoneAndEnds}
 use Rattle.nano_grammar.proofs.FaultLaws.{goes_wrong, none_ended}
 use Rattle.nano_grammar.proofs.TokenCalls.{fails_here, fails_for_memory}
 use Rattle.nano_text.proofs.PlaceLaws.{moves_none}
+use Rattle.nano_json_tokens.specs.Breaks.{Breaks}
 use Rattle.nano_json_tokens.specs.Cut.{Cut, json_grammar}
 use Rattle.nano_json_tokens.specs.Outcomes.{report, position}
 use Rattle.nano_json_tokens.specs.State.{ended, pending}

@@ -3,15 +3,17 @@ use Rattle.std.proofs.Common.{◌≡◌, ℕ, List, [], ◌∷◌, Result, Ok, E
 use Rattle.std.proofs.Common.{true, false, inl, inr, string_bytes, ◌∙◌, Bool, ◌++◌}
 use Rattle.std.specs.declared.str.Chars.{Chars}
 use Rattle.nano_text.specs.Place.{remaining, text_at, Advances, Moves}
-use Rattle.nano_text.proofs.PlaceLaws.{moves_append, moves_none, moves_advance, advances_append}
+use Rattle.nano_text.proofs.PlaceLaws.{moves_append, moves_none}
 use Rattle.nano_grammar.specs.Outcomes.{Position, Report, Fails, TookNext, Took, ReadsNone, StandsAt}
 use Rattle.nano_grammar.specs.Outcomes.{ReadsNoneAndEnds, GoesWrong as GoesWrongBy, IsMadeAt}
-use Rattle.nano_grammar.specs.Faults.{AreTokens, Reason, wrong, uncut, MayFollow, NoneBegins, Fault}
+use Rattle.nano_grammar.specs.Outcomes.{Uncut}
+use Rattle.nano_grammar.specs.Faults.{NothingCut, AreTokens, Reason, wrong, uncut, MayFollow, NoneBegins, Fault}
 use Rattle.nano_grammar.proofs.FaultLaws.{goes_wrong, stopped_here, uncut_token, none_ended}
-use Rattle.nano_grammar.proofs.FaultLaws.{nothing_decodes}
+use Rattle.nano_grammar.proofs.FaultLaws.{nothing_decodes, uncut_from}
 use Rattle.nano_grammar.proofs.TokenCalls.{fails_here, none_in, none_first}
+use Rattle.nano_json_tokens.specs.Breaks.{Breaks}
 use Rattle.nano_json_tokens.specs.Cut.{Cut}
-use Rattle.nano_json_tokens.specs.Outcomes.{report, position, Keeps, NothingCut}
+use Rattle.nano_json_tokens.specs.Outcomes.{report, position, Keeps}
 use Rattle.nano_json_tokens.specs.Outcomes.{EndsOnError, TookText, LacksText}
 use Rattle.nano_json_tokens.specs.State.{at, ended, pending, place_of, token_of}
 use Rattle.nano_json_tokens.specs.Skipped.{SkippedField}
@@ -117,10 +119,10 @@ module _ {old mid : DeJsonState} {text : List ℕ} (i : Chars) (h : TookText old
     place = moved_before end k.place;
   }
 
-  pub text_not : {end : Position Token} {e : Report} → Fails (NothingCut (remaining mid.cur i)) (position mid i) end e
+  pub text_not : {end : Position Token} {e : Report} → Fails (Uncut Cut Breaks (position mid i) end) (position mid i) end e
       → ReadsNone Cut Breaks AloneName (position old i) end e
   text_not k =
-      stopped_here Cut AloneName refl (λ v e. absurd (cc e)) (fails_before (subst (NothingCut) same_text) k)
+      stopped_here Cut AloneName refl (λ v e. absurd (cc e)) (fails_before (uncut_from same_text (ap place_of h.others) refl) k)
 
   -- a colon comes after it
   pub key_taken : {same_buffers : Type 0} {end : Position Token} → Took Cut same_buffers (position mid i) end (pending mid ∷ (colon ∷ []))
@@ -149,7 +151,7 @@ module _ {old mid : DeJsonState} {text : List ℕ} (i : Chars) (h : TookText old
       absurd (none (colon ∷ colon ∷ []) tt (pending mid ∷ (colon ∷ [])) [] colon tt refl first)
   key_wrong there here (uncut n) at moved stands [] l none =
       let start = position old i in
-      let uncut_here : NothingCut (remaining old.cur i) =
+      let uncut_here : NothingCut Cut (remaining old.cur i) =
       λ u rest c. n u rest (subst (λ (z : At Token). Cut z.text u rest) l (subst (λ (t : List ℕ). Cut t u rest) (sym same_text) c)) in
       record {
         here = start;
@@ -157,7 +159,15 @@ module _ {old mid : DeJsonState} {text : List ℕ} (i : Chars) (h : TookText old
         moved = moves_none start.place start.input;
         reason = uncut uncut_here;
         fault = uncut_token Cut AKey start.at uncut_here (λ v e. absurd (cc e));
-        stands = advances_append (moves_advance (moved_before here moved)) stands;
+        stands = record {
+          stop = stands.stop;
+          input = stands.input;
+          broken = subst (λ (t : List ℕ). Breaks t (text_at stands.stop stands.input)) same_text
+              (subst (λ (z : At Token). Breaks z.text (text_at stands.stop stands.input)) (sym l) stands.broken);
+          moved = moves_append (moved_before here moved) stands.moved;
+          line = stands.line;
+          col = stands.col;
+        };
       }
   key_wrong there here reason at moved stands (u ∷ us) l none = record {
     here = here;

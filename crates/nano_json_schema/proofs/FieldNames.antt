@@ -4,7 +4,7 @@ use Rattle.std.proofs.Common.{MatchOption, Bor, string_bytes, inl, inr, refl, sy
 use Rattle.std.specs.Option.{is_some}
 use Rattle.std.specs.declared.str.Chars.{Chars}
 use Rattle.nano_text.specs.Place.{remaining, text_at}
-use Rattle.nano_text.proofs.PlaceLaws.{moves_append, moves_none, moves_advance, advances_append}
+use Rattle.nano_text.proofs.PlaceLaws.{moves_append, moves_none}
 use Rattle.nano_grammar.specs.Outcomes.{Position, Moved, Report, Fails, TookNext, Took, TookComma}
 use Rattle.nano_grammar.specs.Outcomes.{ReadsNone, StandsAt, GoesWrong as GoesWrongBy}
 use Rattle.nano_grammar.specs.Tokens.{At, Leaves}
@@ -12,6 +12,7 @@ use Rattle.nano_grammar.specs.Faults.{NothingCut, AreTokens, Reason, wrong, uncu
 use Rattle.nano_grammar.proofs.FaultLaws.{uncut_token, later_tokens_lead}
 use Rattle.nano_grammar.proofs.TokenCalls.{fails_after, none_in}
 use Rattle.nano_grammar.proofs.TokensLaws.{leaves_split}
+use Rattle.nano_json_tokens.specs.Breaks.{Breaks}
 use Rattle.nano_json_tokens.specs.Cut.{Cut}
 use Rattle.nano_json_tokens.specs.Scan.{NoName, TookName}
 use Rattle.nano_json_tokens.specs.Outcomes.{position}
@@ -19,6 +20,7 @@ use Rattle.nano_json_tokens.specs.State.{at, pending, token_of, KeepsBuffers, Ke
 use Rattle.nano_json_tokens.specs.Token.{Token, str, colon, comma, curly_close, IsStr}
 use Rattle.nano_json_tokens.specs.declared.state.DeJsonState.{DeJsonState}
 use Rattle.nano_json_tokens.proofs.Cuts.{cut_spaced}
+use Rattle.nano_json_tokens.proofs.Scanning.{breaks_spaced}
 use Rattle.nano_json_schema.specs.Reading.{name_bytes, GoesOn, ReachedName, NoNameAfter}
 use Rattle.nano_json_schema.specs.Reading.{TakesNameAfter, TookColon, head_left}
 use Rattle.nano_json_schema.proofs.Calls.{pending_name, still_there}
@@ -33,6 +35,7 @@ looked_ahead is old new i j (Some n) e h same = record { is = e; took = h }
 looked_ahead is old new i j None e h same = record {
   tok = λ k. token_of (h.tok k) (string_bytes (same.strbuf k)) (string_bytes (same.numbuf k));
   cuts = cut_spaced (remaining old.cur i) (remaining new.cur j) h.space;
+  breaks = breaks_spaced (remaining old.cur i) (remaining new.cur j) h.space;
   unchanged = λ other. absurd (let x = sym e ∙ other in cc x);
   place = h.place;
 }
@@ -86,7 +89,15 @@ module _ {is : Bool} {old new : DeJsonState} {i j : Chars} where
           moved = moves_none start.place start.input;
           reason = uncut uncut_here;
           fault = uncut_token Cut (AreTokens (t ∷ [])) start.at uncut_here (λ v e. absurd (cc e));
-          stands = advances_append (moves_advance (moves_append h.place moved)) stands;
+          stands = record {
+            stop = stands.stop;
+            input = stands.input;
+            broken = h.breaks (text_at stands.stop stands.input)
+                (subst (λ (z : At Token). Breaks z.text (text_at stands.stop stands.input)) (sym l) stands.broken);
+            moved = moves_append h.place (moves_append moved stands.moved);
+            line = stands.line;
+            col = stands.col;
+          };
         }
     from_there t there is here reason text moved stands (u ∷ us) l none = record {
       here = here;

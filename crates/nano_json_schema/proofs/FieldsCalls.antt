@@ -17,6 +17,7 @@ use Rattle.nano_grammar.proofs.StructReading.{FieldsSoFar, fields_start, fields_
 use Rattle.nano_grammar.proofs.StructReading.{struct_missing, struct_opening_leads, fields_taken}
 use Rattle.nano_grammar.proofs.StructReading.{struct_field_leads, struct_comma_leads}
 use Rattle.nano_grammar.proofs.StructReading.{struct_field_taken, struct_closing_leads}
+use Rattle.nano_json_tokens.specs.Breaks.{Breaks}
 use Rattle.nano_json_tokens.specs.Cut.{Cut}
 use Rattle.nano_json_tokens.specs.Token.{Token, str, colon, comma, curly_open, curly_close}
 use Rattle.nano_json.proofs.Json.{json_laws}

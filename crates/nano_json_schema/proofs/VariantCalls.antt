@@ -14,6 +14,7 @@ use Rattle.nano_grammar.proofs.TokenCalls.{fails_here, none_in}
 use Rattle.nano_grammar.proofs.TokensLaws.{leaves_append}
 use Rattle.nano_grammar.specs.Variants.{unit_named, content_named, Found, nobody, found}
 use Rattle.nano_grammar.specs.Variants.{EncodesFound}
+use Rattle.nano_json_tokens.specs.Breaks.{Breaks}
 use Rattle.nano_json_tokens.specs.Cut.{Cut}
 use Rattle.nano_json_tokens.specs.Outcomes.{position, report}
 use Rattle.nano_json_tokens.specs.State.{at, ended}

@@ -3,6 +3,7 @@ use Rattle.std.specs.Prelude.{◌≡◌, ℕ, Bool, List, [], Result, MatchResul
 use Rattle.std.specs.Prelude.{◌++◌}
 use Rattle.nano_value.specs.Meaning.{Meaning}
 use Rattle.nano_grammar.specs.Outcomes.{Position, Took, ReadsNone, ReadsNoneAndEnds}
+use Rattle.nano_json_tokens.specs.Breaks.{Breaks}
 use Rattle.nano_json_tokens.specs.Cut.{Cut}
 use Rattle.nano_json_tokens.specs.Outcomes.{report, Says}
 use Rattle.nano_json_tokens.specs.State.{ended, place_of}

@@ -14,6 +14,7 @@ use Rattle.nano_text.specs.Place.{remaining}
 use Rattle.nano_grammar.specs.Outcomes.{Position, Moved, Fails, ReadsNone}
 use Rattle.nano_grammar.specs.Tokens.{At, Leaves, Spans}
 use Rattle.nano_grammar.specs.Faults.{AreTokens}
+use Rattle.nano_json_tokens.specs.Breaks.{Breaks}
 use Rattle.nano_json_tokens.specs.Cut.{Cut, json_grammar}
 use Rattle.nano_json_tokens.specs.Scan.{TookName, is_end}
 use Rattle.nano_json_tokens.specs.Outcomes.{report, Keeps, Moved as MovedBy}
@@ -111,6 +112,8 @@ module _ (before_name : Bool) (old : DeJsonState) (before : Chars) (new : DeJson
   pub record NoNameAfter : Type 0 where
     pub tok : pending new ≡ pending old
     pub cuts : HasCutsOf (remaining old.cur before) (remaining new.cur after)
+    pub breaks : (rest : List ℕ) → Breaks (remaining new.cur after) rest
+        → Breaks (remaining old.cur before) rest
     pub unchanged : before_name ≡ false → Keeps old before new after
     pub place : MovedBy old before new after
 

@@ -25,7 +25,7 @@ use Rattle.nano_json_tokens.proofs.Calling.{gives_up, fails_ended_there, made_th
 use Rattle.nano_json_tokens.proofs.Capacity.{by_rejection, outgrows_same}
 use Rattle.nano_json_tokens.proofs.Cuts.{lexeme_cut, cut_lexeme, punctuator_cut, word_prefix}
 use Rattle.nano_json_tokens.proofs.LexemeKinds.{kind_of, no_token, only_none}
-use Rattle.nano_text.proofs.Prefixes.{prefix_split}
+use Rattle.nano_text.proofs.Prefixes.{prefix_split, prefix_all, after_stop}
 use Rattle.nano_text.specs.Characters.{prefix, following}
 use Rattle.nano_text.specs.String.{IsString, IsPlainString}
 use Rattle.nano_text.proofs.PlainStrings.{plain_is_string}
@@ -101,6 +101,20 @@ pub lexeme_breaks : (text rest : List ℕ) → BreaksLexeme (following is_space 
 lexeme_breaks text rest h =
     let s = prefix_split is_space text in
     record { space = prefix is_space text; body = following is_space text; split = s.0; skipped = s.1; ends = s.2; lexeme = h }
+
+-- and after the white space of what breaks comes what follows all white space
+breaks_lexeme : (text rest : List ℕ) → Breaks text rest → BreaksLexeme (following is_space text) rest
+breaks_lexeme text rest h =
+    let all = prefix_all is_space h.space h.body h.skipped h.ends in
+    subst (λ (body : List ℕ). BreaksLexeme body rest) (sym (ap (following is_space) h.split ∙ all.1)) h.lexeme
+
+-- white space that was passed changes no place where a text breaks
+pub breaks_spaced : (text after : List ℕ) → after ≡ following is_space text → (rest : List ℕ)
+    → Breaks after rest → Breaks text rest
+breaks_spaced text after is rest h =
+    let still : following is_space after ≡ following is_space text =
+    ap (following is_space) is ∙ after_stop is_space (following is_space text) (prefix_split is_space text).2 in
+    lexeme_breaks text rest (subst (λ (l : List ℕ). BreaksLexeme l rest) still (breaks_lexeme after rest h))
 
 -- a word that is no token
 pub word_breaks : (text : List ℕ) → word_token (prefix is_word text) ≡ None → BreaksWord text (following is_word text)

@@ -7,6 +7,7 @@ use Rattle.nano_grammar.specs.Outcomes.{Position, Read, Report, ReadsNoneAndEnds
 use Rattle.nano_grammar.proofs.FaultLaws.{goes_wrong, none_ended}
 use Rattle.nano_grammar.proofs.TokenCalls.{fails_here, fails_for_memory, none_as}
 use Rattle.nano_text.proofs.PlaceLaws.{moves_none}
+use Rattle.nano_ron_tokens.specs.Breaks.{Breaks}
 use Rattle.nano_ron_tokens.specs.Cut.{Cut, ron_grammar}
 use Rattle.nano_ron_tokens.specs.Outcomes.{report, position}
 use Rattle.nano_ron_tokens.specs.State.{ended, pending}

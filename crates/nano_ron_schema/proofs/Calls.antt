@@ -6,6 +6,7 @@ use Rattle.nano_grammar.specs.Outcomes.{Position, Took, Report, Read, ReadsNoneA
 use Rattle.nano_grammar.specs.Faults.{Reason, Fault}
 use Rattle.nano_grammar.proofs.FaultLaws.{none_ended, nothing_decodes}
 use Rattle.nano_grammar.proofs.TokenCalls.{none_in, none_first}
+use Rattle.nano_ron_tokens.specs.Breaks.{Breaks}
 use Rattle.nano_ron_tokens.specs.Cut.{Cut}
 use Rattle.nano_ron_tokens.specs.Outcomes.{position, Keeps, EndsOnError}
 use Rattle.nano_ron_tokens.specs.State.{ended, token_of, pending, at, place_of}

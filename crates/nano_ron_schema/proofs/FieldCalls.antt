@@ -17,6 +17,7 @@ use Rattle.nano_grammar.proofs.FieldReading.{named_found, colon_leads, value_lea
 use Rattle.nano_grammar.proofs.FieldReading.{to_second}
 use Rattle.nano_grammar.proofs.FieldCalls.{known_read}
 use Rattle.nano_grammar.proofs.FieldsLaws.{allowed_ends}
+use Rattle.nano_ron_tokens.specs.Breaks.{Breaks}
 use Rattle.nano_ron_tokens.specs.Cut.{Cut}
 use Rattle.nano_ron_tokens.specs.Token.{Token, ident, colon, comma, paren_open, paren_close}
 use Rattle.nano_ron_tokens.specs.Outcomes.{position}

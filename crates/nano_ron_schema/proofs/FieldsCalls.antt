@@ -18,6 +18,7 @@ use Rattle.nano_grammar.proofs.StructReading.{FieldsSoFar, fields_start, fields_
 use Rattle.nano_grammar.proofs.StructReading.{struct_found, struct_missing, struct_opening_leads}
 use Rattle.nano_grammar.proofs.StructReading.{struct_comma_leads, fields_taken}
 use Rattle.nano_grammar.proofs.StructReading.{struct_field_taken, struct_closing_leads}
+use Rattle.nano_ron_tokens.specs.Breaks.{Breaks}
 use Rattle.nano_ron_tokens.specs.Cut.{Cut}
 use Rattle.nano_ron_tokens.specs.Token.{Token, ident, comma, paren_open, paren_close}
 use Rattle.nano_ron_tokens.specs.Token.{parens}

@@ -5,6 +5,7 @@ use Rattle.std.specs.List.{flat_map}
 use Rattle.nano_value.specs.Meaning.{Meaning}
 use Rattle.nano_grammar.specs.Outcomes.{Position, Moved, Took, ReadsNone, ReadsNoneAndEnds}
 use Rattle.nano_grammar.specs.Tokens.{Leaves}
+use Rattle.nano_ron_tokens.specs.Breaks.{Breaks}
 use Rattle.nano_ron_tokens.specs.Cut.{Cut}
 use Rattle.nano_ron_tokens.specs.Outcomes.{report, Says}
 use Rattle.nano_ron_tokens.specs.State.{ended, pending, place_of}

@@ -5,8 +5,10 @@ use Rattle.std.specs.List.{ends_with}
 use Rattle.std.specs.Global.{Global}
 use Rattle.nano_value.specs.Meaning.{Meaning}
 use Rattle.nano_grammar.specs.Outcomes.{WholeDecodesTo, Report, ReadsNoWhole}
+use Rattle.nano_json_tokens.specs.Breaks.{Breaks as JsonBreaks}
 use Rattle.nano_json_tokens.specs.Cut.{Cut as JsonCut}
 use Rattle.nano_json_tokens.specs.Token.{end as json_end}
+use Rattle.nano_ron_tokens.specs.Breaks.{Breaks as RonBreaks}
 use Rattle.nano_ron_tokens.specs.Cut.{Cut as RonCut}
 use Rattle.nano_ron_tokens.specs.Token.{end as ron_end}
 use Rattle.nano_json.specs.Codec.{Encoding as JsonEncoding, Canonical as JsonCanonical}

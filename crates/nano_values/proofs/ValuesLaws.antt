@@ -6,7 +6,7 @@ use Rattle.nano_text.specs.Place.{remaining_text}
 use Rattle.nano_text.proofs.PlaceLaws.{moves_append, moves_none, moves_advance, advances_append}
 use Rattle.nano_grammar.specs.Tokens.{At, Cutting, Leaves, Begins, Spans, DecodesToNothing}
 use Rattle.nano_grammar.specs.Codec.{Grammar, IsEncoding, BeginsValue}
-use Rattle.nano_grammar.specs.Outcomes.{HoldsNul, Report, Position, IsMadeAt, NothingCut, Stops, Read}
+use Rattle.nano_grammar.specs.Outcomes.{HoldsNul, Report, Position, IsMadeAt, Uncut, Stops, Read}
 use Rattle.nano_grammar.specs.Outcomes.{ReadsNoneAndEnds, TookNext, GoesWrong, given_up}
 use Rattle.nano_values.specs.Values.{Encodings, HoldsValues, IsNext, TakesFirst, TakesValue, IsOver}
 use Rattle.nano_values.specs.Values.{NoneIsNext, TakesNone, IsFirst, TakesValues}
@@ -75,12 +75,12 @@ module _ {T : Type 0} {c : Cutting T} {g : Grammar T} (r : CutLaws c g) (bof : T
 
     -- no first token is cut
     pub nothing_first : {last : At T} {full : Type 0} {bytes : List ℕ} {old new : Position T} {e : Report}
-        → old.at.token ≡ bof → Stops last (NothingCut c.cut old.at.text) full old new e
+        → old.at.token ≡ bof → Stops last (Uncut c.cut c.breaks old new) full old new e
         → TakesNone c.cut S bof r.end last bytes old new e
     nothing_first {old = old} is h = record {
       fails = record {
         rejected = λ known first n.
-            absurd (h.fails.rejected known first.token first.text (is_first c.cut bof old.at first is n));
+            absurd ((h.fails.rejected known).none first.token first.text (is_first c.cut bof old.at first is n));
         made = h.fails.made;
         place = h.fails.place;
       };

@@ -5,7 +5,7 @@ use Rattle.nano_grammar.specs.Outcomes.{Position, HoldsNul, Stops, given_up}
 use Rattle.nano_values.specs.Values.{IsFirst, IsOver, TakesValue, TakesNone}
 use Rattle.nano_values.specs.Values.{TakesFirst as TakesFirstBy}
 use Rattle.nano_json_tokens.specs.Cut.{Cut}
-use Rattle.nano_json_tokens.specs.Outcomes.{position, report, IsMadeAt, NothingCut, NoCapacity}
+use Rattle.nano_json_tokens.specs.Outcomes.{position, report, IsMadeAt, Uncut, NoCapacity}
 use Rattle.nano_json_tokens.specs.State.{ended, pending}
 use Rattle.nano_json_tokens.specs.Token.{Token, bof, end}
 use Rattle.nano_json_tokens.specs.declared.error.DeJsonErr.{DeJsonErr}
@@ -49,7 +49,7 @@ module _ (old new : Values) where
   -- none can be cut
   pub record CutsNone (e : DeJsonErr) : Type 0 where
     pub first : pending old.state ≡ bof
-    pub stops : Stops ended (NothingCut (remaining old.state.cur old.input))
+    pub stops : Stops ended (Uncut old.state old.input new.state new.input)
         (NoCapacity old.state (remaining old.state.cur old.input)) (standing old) (standing new)
         (report e)
 

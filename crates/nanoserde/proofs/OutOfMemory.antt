@@ -4,10 +4,10 @@ use Rattle.std.proofs.Common.{◌≡◌, ℕ, List, [], Result, Ok, Err, IfOk, I
 use Rattle.std.proofs.Common.{chars, refl, sym, subst, ◌∙◌, arith}
 use Rattle.nano_grammar.specs.Outcomes.{Report, ReadsNoText}
 
-pub no_text_of_memory : {T V : Type 0} (cut : List ℕ → T → List ℕ → Type 0) (encodes : List T → V → Type 0)
-    (bytes : List ℕ) (e : Report) → e.memory ≡ true → e.message ≡ [] → e.line ≡ 0 → e.col ≡ 0
+pub no_text_of_memory : {T V : Type 0} (cut : List ℕ → T → List ℕ → Type 0) (breaks : List ℕ → List ℕ → Type 0)
+    (encodes : List T → V → Type 0) (bytes : List ℕ) (e : Report) → e.memory ≡ true → e.message ≡ [] → e.line ≡ 0 → e.col ≡ 0
     → ReadsNoText cut breaks encodes bytes e
-no_text_of_memory cut encodes bytes e memory silent line col = record {
+no_text_of_memory cut breaks encodes bytes e memory silent line col = record {
   fault = λ known. absurd (let x = sym memory ∙ known in cc x);
   silent = λ _. silent;
   place = record {

@@ -11,6 +11,7 @@ pub returns : goal.returns
 returns c = record {
   tok = refl;
   cuts = λ t rest. (λ h. h, λ h. h);
+  breaks = λ rest h. h;
   unchanged = λ _. (refl, refl);
   place = moves_none _ _;
 }

@@ -2,8 +2,10 @@ use Rattle.std.proofs.Common.{◌≡◌, Bool, true, false, refl, sym, subst, �
 use Rattle.std.proofs.lemmas.Result.{err_from_is_err_and}
 use Rattle.std.specs.Prelude.{string_bytes}
 use Rattle.nano_grammar.specs.Outcomes.{Report, ReadsNoWhole}
+use Rattle.nano_json_tokens.specs.Breaks.{Breaks as JsonBreaks}
 use Rattle.nano_json_tokens.specs.Cut.{Cut as JsonCut}
 use Rattle.nano_json_tokens.specs.Token.{end as json_end}
+use Rattle.nano_ron_tokens.specs.Breaks.{Breaks as RonBreaks}
 use Rattle.nano_ron_tokens.specs.Cut.{Cut as RonCut}
 use Rattle.nano_ron_tokens.specs.Token.{end as ron_end}
 use Rattle.nano_text_forms.specs.Forms.{IsOf, NotOfMemory, Reports}
