@@ -39,6 +39,7 @@ APART = {
     "IsReport": "where bytes go wrong",
     "RejectsWithMore": "where bytes go wrong",
     "RejectsWholeWithMore": "where bytes go wrong",
+    "Breaks": "where JSON and RON go wrong",
     "GoesWrong": "where JSON and RON go wrong",
     "IsNoText": "where JSON and RON go wrong",
     "TextGoesOn": "where JSON and RON go wrong",
