@@ -121,5 +121,5 @@ returns-in_default-clause-breaks c error =
     let exponent = none_mapped exponent_len _ (sym taken.exponent ∙ none_from _ c.if-is_none-2.ensures) in
     let minus : is_minus (run_at text).sign ≡ c.is_minus.result = sym (c.is_minus.ensures ∙ ap is_minus taken.sign) in
     number_breaks _ _ taken.rest (λ good.
-        c.in_default.ensures (run_at text).whole taken.whole taken.value
-        (subst (λ (b : Bool). AreGoodParts b (run_at text).whole None None) minus (integer_good text fraction exponent good)))
+    c.in_default.ensures (run_at text).whole taken.whole taken.value
+    (subst (λ (b : Bool). AreGoodParts b (run_at text).whole None None) minus (integer_good text fraction exponent good)))

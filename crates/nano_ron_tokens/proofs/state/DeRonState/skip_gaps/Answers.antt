@@ -32,7 +32,7 @@ returns-then-not-skip_comment-clause-skipped c =
     let stops = c.if-not-skip_comment.ensures.skipped in (
       none_cut text between after kind stops.0,
       gap_breaks text between (remaining c.skip_comment.new.self.cur c.skip_comment.new.i) after
-      (remaining_stop is_space cur c.comments.i refl c.comments.invariant.no_space) (slash stops.1),
+          (remaining_stop is_space cur c.comments.i refl c.comments.invariant.no_space) (slash stops.1),
     )
 
 pub returns-then-not-skip_comment-clause-passed : goal.returns-then-not-skip_comment-clause-passed
