@@ -111,7 +111,7 @@ def said_of(fields, values):
 
 def compare_clauses(owner, trait, schema, skipped):
     """The clauses of `make`: the trait's alone, or it again and this one for skipped fields."""
-    head = re.search(r"fn make\(values: Self::Values\) -> Self(.*?)\{\n        let ", schema, re.S)[1]
+    head = re.search(r"fn make\(.*?\) -> Self(.*?)\{\n        let ", schema, re.S)[1]
     got = re.sub(rf"(⟦<{owner})<[\w,]*>(as{trait}>)", r"\1\2", tidy(PATH.sub("", head)))
     seen = f"ensuresseen{{⟦<{owner}as{trait}>⟧.viewresult≡values}}"
     wanted = f"{seen}ensuresskipped{{{skipped}}}" if skipped else ""
