@@ -2,7 +2,7 @@
 import re
 
 from .definitions import Differs, name_of, same
-from .fields import compare_fields, compare_literal, taken_apart
+from .fields import compare_clauses, compare_fields, compare_literal, said_of, taken_apart
 from .impls import LABEL, parts_of
 from .structs import flat
 
@@ -66,7 +66,7 @@ def compare_refs(owner, variant, index, last, refs):
 
 def compare_made(owner, variants, schema):
     """Each variant is made of its content, which is taken apart in its order."""
-    lines = schema.partition("-> Self {\n")[2]
+    lines = schema.partition("-> Self")[2]
     for index, (name, _attributes, kind, fields) in enumerate(variants):
         is_last_of_several = 0 < index == len(variants) - 1
         before, _made, lines = lines.partition(f"Self::{name}")
@@ -82,13 +82,26 @@ def compare_made(owner, variants, schema):
             same(f"parts of `{owner}::{name}`", taken, [part for part in parts if part])
 
 
+def skipped_of(variants):
+    """What a clause says of skipped fields that are in no row, by the variant, or nothing."""
+    cases = []
+    for name, _attributes, _kind, fields in variants:
+        binders = [f"v{place}" for place in range(len(fields))]
+        said = said_of(fields, binders)
+        cases += [f"|{name}{''.join(binders)}↦{said}"] if said else []
+    cases += ["|_↦⊤"] if cases and len(cases) < len(variants) else []
+    return f"elimresult[{''.join(cases)}]" if cases else ""
+
+
 def compare_enum(impls, name, attributes, variants):
     """An enum: its variants in their order, what it is seen as and what it is made as."""
     rows = parts_of(impls.expanded(impls.aliases[f"{name}Variants"]))
     same(f"number of variants of `{name}`", len(variants), len(rows))
     schema = impls.block(f"(?:\\w+::)?EnumSchema for {name}\\b")
     refs = impls.block(f"(?:\\w+::)?VariantRefs<'a> for {name}\\b")
-    arms = re.findall(r"\| (\w+)((?: \w+)*) ↦ (.*)", schema)
+    view = re.search(r"ghost view = \{(.*?)\};", schema, re.S)[1]
+    arms = re.findall(r"\| (\w+)((?: \w+)*) ↦ (.*)", view)
+    compare_clauses(name, "EnumSchema", schema, skipped_of(variants))
     same(f"variants that `{name}` is seen as", [v[0] for v in variants], [arm[0] for arm in arms])
     same(
         f"variants that `{name}` is made as",

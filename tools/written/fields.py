@@ -1,7 +1,7 @@
 """Fields with names: their names and types, and what stands where one is missing or skipped."""
 import re
 
-from .definitions import Differs, name_of, path_below, same
+from .definitions import PATH, Differs, name_of, path_below, same, tidy
 from .impls import LABEL, parts_of
 
 
@@ -89,6 +89,33 @@ def compare_literal(owner, fields, body, head):
         made = field.default or "std::default::Default::default()"
         wanted = None if field.is_in_row() else made
         same(f"what `{owner}.{field.name}` is made of", wanted, got[field.name])
+
+
+def said_of(fields, values):
+    """What a clause says of the values that fields are made as which stand in no row."""
+    facts = []
+    for field, value in zip(fields, values):
+        given = field.default
+        if field.is_in_row():
+            continue
+        if given is None:
+            facts.append(f"⟦<{field.type}asDefault>⟧.is_default{value}")
+        elif not field.type.startswith("i"):
+            facts.append(f"{value}≡{given}")
+        elif given.startswith("-"):
+            facts.append(f"{value}≡neg_ℤ(pos{given[1:]})")
+        else:
+            facts.append(f"{value}≡pos{given}")
+    return "×".join(f"({fact})" for fact in facts) if facts[1:] else "".join(facts)
+
+
+def compare_clauses(owner, trait, schema, skipped):
+    """The clauses of `make`: the trait's alone, or it again and this one for skipped fields."""
+    head = re.search(r"fn make\(.*?\) -> Self(.*?)\{\n        let ", schema, re.S)[1]
+    got = re.sub(rf"(⟦<{owner})<[\w,]*>(as{trait}>)", r"\1\2", tidy(PATH.sub("", head)))
+    seen = f"ensuresseen{{⟦<{owner}as{trait}>⟧.viewresult≡values}}"
+    wanted = f"{seen}ensuresskipped{{{skipped}}}" if skipped else ""
+    same(f"clauses of `make` of `{owner}`", wanted, got)
 
 
 def taken_apart(lines, whole):

@@ -2,7 +2,7 @@
 import re
 
 from .definitions import PATH, same, tidy
-from .fields import compare_fields, compare_literal, taken_apart
+from .fields import compare_clauses, compare_fields, compare_literal, said_of, taken_apart
 from .impls import parts_of
 
 # How many parts the longest tuple has that is one in every format.
@@ -64,6 +64,8 @@ def compare_struct(impls, name, attributes, content):
     compare_of_row(impls, name, row, refs, "Refs", "Borrowed<'a>")
     if kind != "Tuple" or len(fields) > LONGEST_TUPLE:
         compare_of_row(impls, name, row, schema, "Values", "Shape")
+    said = said_of(fields, [f"result.{field.name}" for field in fields])
+    compare_clauses(name, "StructSchema", schema, said)
     if kind == "Tuple":
         return compare_parts(impls, name, fields, schema)
     taken = taken_apart(schema, "values")

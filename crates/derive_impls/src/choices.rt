@@ -2,6 +2,7 @@
 
 use crate::chains::append_chains;
 use crate::codecs::append_codecs;
+use crate::ensured::of_variants;
 use crate::fields::{append_fields, are_skipped, row_fields};
 use crate::forms::CHOICE;
 use crate::labels::{append_labels, name_of, variant_names};
@@ -109,7 +110,7 @@ $IMPORTS
     ghost view = { λ x. elim x [
 $CASES    ] };
 
-    fn make(values: Self::Values) -> Self {
+    fn make(values: Self::Values) -> Self$ENSURED
 $MAKING    }
 }
 ";
@@ -128,9 +129,11 @@ fn append_view<'a>(
     let cases = sheet.made(cases(alloc, variants));
     let making = sheet.made(making(alloc, variants));
     let making = sheet.short(making.as_str());
+    let ensured = of_variants(sheet, target, variants)?;
     let mut holes = target.bounded_holes(sheet)?;
     holes.put("IMPORTS", imports.as_str());
     holes.put("CASES", cases.as_str());
+    holes.put("ENSURED", ensured.as_str());
     holes.put("MAKING", making.as_str());
     sheet.write(VIEW, &holes);
     Ok(())

@@ -9,6 +9,7 @@ mod choices;
 mod codec;
 mod codecs;
 pub mod defaults;
+mod ensured;
 pub mod fields;
 mod flat;
 mod forms;

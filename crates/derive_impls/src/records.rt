@@ -2,6 +2,7 @@
 
 use crate::codecs::append_codecs;
 use crate::defaults::made_field;
+use crate::ensured::of_fields;
 use crate::fields::{append_fields, field_texts, row_fields};
 use crate::forms::RECORD;
 use crate::layout::{Brackets, Items, Piece, list};
@@ -38,6 +39,7 @@ fn seen<'a>(
     Ok(Seen {
         types: values_of_row(sheet, target)?,
         view: laid_pairs(alloc, &field_texts(alloc, in_row, "x.$NAME")?, 4, (24, 3))?,
+        ensured: of_fields(sheet, target, fields)?,
         taken: fields_taken(alloc, in_row, "values", 8)?,
         made: made(alloc, target, fields)?.laid,
         borrowed: laid(alloc, in_row, "&self.$NAME", Items::Values, (8, 7))?,

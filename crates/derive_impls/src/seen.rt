@@ -11,6 +11,8 @@ pub(crate) struct Seen {
     pub(crate) types: String,
     /// The values of the struct `x`, in a ghost term.
     pub(crate) view: String,
+    /// What comes after the head of `make`: its own clauses, and the bracket that opens its body.
+    pub(crate) ensured: String,
     /// Lines that take `values` apart.
     pub(crate) taken: String,
     /// The struct, made of what these bind.
@@ -25,7 +27,7 @@ impl$BOUNDS nano_schema::StructSchema for $FULL$OPEN
 
     ghost view = { λ x. $VIEW };
 
-    fn make(values: Self::Values) -> Self {
+    fn make(values: Self::Values) -> Self$ENSURED
 $TAKEN        $MADE
     }
 }
@@ -61,6 +63,7 @@ pub(crate) fn append_seen<'a>(
     let mut holes = target.bounded_holes(sheet)?;
     holes.put("FIELDS", seen.types.as_str());
     holes.put("VIEW", seen.view.as_str());
+    holes.put("ENSURED", seen.ensured.as_str());
     holes.put("TAKEN", seen.taken.as_str());
     holes.put("MADE", seen.made.as_str());
     holes.put("BORROWED", seen.borrowed.as_str());

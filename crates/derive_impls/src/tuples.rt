@@ -2,6 +2,7 @@
 //! to four by Rust's tuple, and a longer one by a first part and the others, each with a schema.
 
 use crate::codecs::append_codecs;
+use crate::ensured::OPENED;
 use crate::forms::{RECORD, WIDE, tupled};
 use crate::layout::{Brackets, Items, Piece, list};
 use crate::records::values_of_row;
@@ -87,6 +88,7 @@ fn wide_seen<'a>(
     Ok(Seen {
         types: values_of_row(sheet, target)?,
         view: first_and_others(alloc, &places, Items::Patterns, (0, 0, 0))?.flat,
+        ensured: String::from_str(alloc, OPENED)?,
         taken: wide_taken(alloc, parts, &names)?,
         made: made(alloc, target, &names)?,
         borrowed: first_and_others(alloc, &borrowed, Items::Values, (8, 8, 0))?.laid,
@@ -161,6 +163,7 @@ fn seen<'a>(alloc: Global, target: &Target<'a>, parts: &[Type<'a>]) -> Result<Se
     Ok(Seen {
         types: target.values.clone()?,
         view: placed(alloc, "x.", parts.len(), (0, 0))?.flat,
+        ensured: String::from_str(alloc, OPENED)?,
         taken: taken(alloc, &names)?,
         made: made(alloc, target, &names)?,
         borrowed: placed(alloc, "&self.", parts.len(), (8, 7))?.laid,

@@ -74,7 +74,7 @@ pub(crate) fn cases<'a>(alloc: Global, variants: &[Variant<'a>]) -> Result<Strin
 }
 
 /// A name for each part or field that a variant holds.
-fn binders<'a>(alloc: Global, variant: &Variant<'a>) -> Result<Vec<String>, AllocError> {
+pub(crate) fn binders<'a>(alloc: Global, variant: &Variant<'a>) -> Result<Vec<String>, AllocError> {
     let count = match &variant.content {
         Content::Nothing => 0,
         Content::Parts(parts) => parts.len(),

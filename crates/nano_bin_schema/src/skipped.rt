@@ -1,5 +1,7 @@
 //! A field that is neither written nor read.
 
+ghost use Rattle.std.specs.Prelude.{◌≡◌, IfOk, IfErr};
+ghost use Rattle.nano_bin_bytes.specs.Reading.{Decodes, ReadsNone};
 ghost use Rattle.nano_bin.specs.ScalarCodecs.{unit_codec};
 
 use crate::fields::{BinFields, BinRefs, BinShape};
@@ -20,7 +22,13 @@ impl<T: Value + Drop, D: DefaultOf<T>> BinFields for Skipped<T, D> {
 
     ghost codec = { unit_codec };
 
-    fn read(alloc: Global, offset: &mut usize, bytes: &[u8]) -> Result<T, DeBinErr> {
+    fn read(alloc: Global, offset: &mut usize, bytes: &[u8]) -> Result<T, DeBinErr>
+        ensures ok { IfOk result (λ values. Decodes (unit_codec {A = T}).encoding.encodes
+            bytes.now offset.old ((unit_codec {A = T}).canonical.means values) offset.new) }
+        ensures err { IfErr result
+            (ReadsNone (unit_codec {A = T}).encoding.encodes bytes.now offset.old offset.new) }
+        ensures made { IfOk result (λ value. T.means value ≡ D.missing) }
+    {
         match D::default(alloc) {
             Ok(value) => {
                 <()>::de_bin(alloc, offset, bytes)?;

@@ -1,5 +1,7 @@
 //! A field that is neither written nor read: it has no name, and is made as its default.
 
+ghost use Rattle.std.specs.Prelude.{◌≡◌, IfOk, IfSome};
+ghost use Rattle.nano_json_schema.specs.Outcomes.{GivesValues, GivesWhole};
 ghost use Rattle.nano_json_schema.specs.FieldCodecs.{no_fields};
 
 use crate::fields::{JsonFields, JsonRefs, JsonShape};
@@ -52,14 +54,22 @@ impl<T: Value + Drop, D: DefaultOf<T>> JsonFields for Skipped<T, D> {
     }
 
     #[inline(always)]
-    fn whole(_slots: (), alloc: Global) -> Option<T> {
+    fn whole(_slots: (), alloc: Global) -> Option<T>
+        ensures given { GivesWhole (no_fields {A = T}).struct.shape (λ fs. Unit {0})
+            (no_fields {A = T}).canonical.means result }
+        ensures made { IfSome result (λ value. T.means value ≡ D.missing) }
+    {
         match D::default(alloc) {
             Ok(value) => Some(value),
             Err(_error) => None,
         }
     }
 
-    fn values(_slots: (), alloc: Global, state: &DeJsonState) -> Result<T, DeJsonErr> {
+    fn values(_slots: (), alloc: Global, state: &DeJsonState) -> Result<T, DeJsonErr>
+        ensures given { GivesValues (no_fields {A = T}).struct.shape (λ fs. Unit {0})
+            (no_fields {A = T}).canonical.means state.now result }
+        ensures made { IfOk result (λ value. T.means value ≡ D.missing) }
+    {
         match D::default(alloc) {
             Ok(value) => Ok(value),
             Err(_error) => Err(state.err_memory(alloc)),

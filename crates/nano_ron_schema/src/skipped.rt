@@ -1,5 +1,7 @@
 //! A field that is neither written nor read: it has no name, and is made as its default.
 
+ghost use Rattle.std.specs.Prelude.{◌≡◌, IfOk};
+ghost use Rattle.nano_ron_schema.specs.Outcomes.{GivesValues};
 ghost use Rattle.nano_ron_schema.specs.FieldCodecs.{no_fields};
 
 use crate::fields::{RonFields, RonRefs, RonShape};
@@ -37,7 +39,11 @@ impl<T: Value + Drop, D: DefaultOf<T>> RonFields for Skipped<T, D> {
         Ok(false)
     }
 
-    fn values(_slots: (), alloc: Global, state: &DeRonState) -> Result<T, DeRonErr> {
+    fn values(_slots: (), alloc: Global, state: &DeRonState) -> Result<T, DeRonErr>
+        ensures given { GivesValues (no_fields {A = T}).struct.shape (λ fs. Unit {0})
+            (no_fields {A = T}).canonical.means state.now result }
+        ensures made { IfOk result (λ value. T.means value ≡ D.missing) }
+    {
         match D::default(alloc) {
             Ok(value) => Ok(value),
             Err(_error) => Err(state.err_memory(alloc)),

@@ -121,6 +121,13 @@ struct A {
 }
 =>
     ghost view = { λ x. x.a };
+
+    fn make(values: Self::Values) -> Self
+        ensures seen { ⟦<A as StructSchema>⟧.view result ≡ values }
+        ensures skipped { (⟦<u8 as std::default::Default>⟧.is_default result.b)
+            × (result.c ≡ 7) }
+    {
+        let a = values;
 =>
             a,
             b: std::default::Default::default(),
@@ -142,6 +149,22 @@ enum A {
             Self::B { a: _, b } => {
 =>
             a: std::default::Default::default(),
+=>
+        ensures seen { ⟦<A as EnumSchema>⟧.view result ≡ values }
+        ensures skipped { elim result [
+          | B v0 v1 ↦ ⟦<u8 as std::default::Default>⟧.is_default v0
+        ] }
+    {
+        let b = values;
+----
+// nanoserde: json
+struct A {
+    a: u8,
+    // nanoserde: skip, default = "b::C"
+    b: u8,
+}
+=>
+    fn make(values: Self::Values) -> Self {
 "#;
 
 /// A skipped field that may take memory, or that a type stands for, is in the row, and has no name

@@ -1,6 +1,7 @@
 //! What is written of each form of a struct.
 
 use crate::default_forms::{DEFAULTED, LARGEST, SKIPPED, SKIPPED_IN_ROW};
+use crate::ensured_forms::ENSURED;
 use crate::forms::{CITING, EMPTY, GENERIC, LARGE, PARTS, PASSED};
 use crate::generic_forms::{BOUNDED, HELD, PATHS};
 use crate::key_forms::KEYS;
@@ -58,6 +59,11 @@ fn a_default_is_a_type(rt: HostRuntime) {
 fn a_skipped_field_has_no_name(rt: HostRuntime) {
     are_written(&rt, rt.alloc(), SKIPPED);
     are_written(&rt, rt.alloc(), SKIPPED_IN_ROW);
+}
+
+#[test]
+fn make_ensures_what_a_skipped_field_is_made_as(rt: HostRuntime) {
+    are_written(&rt, rt.alloc(), ENSURED);
 }
 
 #[test]

@@ -20,6 +20,8 @@ mod default_faults;
 #[cfg(test)]
 mod default_forms;
 #[cfg(test)]
+mod ensured_forms;
+#[cfg(test)]
 mod fault_tests;
 #[cfg(test)]
 mod faults;

@@ -1,6 +1,6 @@
 //! Written by derive_files: how the types of the module above are encoded.
 
-ghost use Rattle.std.specs.Prelude.{codes, ◌==◌, if◌then◌else◌, refl};
+ghost use Rattle.std.specs.Prelude.{codes, ◌==◌, if◌then◌else◌, ◌≡◌, refl};
 ghost use Rattle.nano_schema.specs.UserTypes.{text, agreed, LegalVariant};
 ghost use Rattle.nano_bin_schema.specs.Structs.{bin_of};
 ghost use Rattle.nano_json_schema.specs.Structs.{json_of};
@@ -65,7 +65,10 @@ impl StructSchema for Draft {
 
     ghost view = { λ x. ((x.title, x.found), (x.state, (x.words, x.places))) };
 
-    fn make(values: Self::Values) -> Self {
+    fn make(values: Self::Values) -> Self
+        ensures seen { ⟦<Draft as StructSchema>⟧.view result ≡ values }
+        ensures skipped { ⟦<u32 as std::default::Default>⟧.is_default result.opened }
+    {
         let ((title, found), (state, (words, places))) = values;
         Draft {
             title,

@@ -2,7 +2,7 @@
 
 ghost use Rattle.nano_bin_schema.specs.Structs.{bin_of};
 ghost use Rattle.nano_schema.specs.UserTypes.{agreed, LegalVariant};
-ghost use Rattle.std.specs.Prelude.{refl, codes, ◌==◌, if◌then◌else◌};
+ghost use Rattle.std.specs.Prelude.{refl, ◌≡◌, codes, ◌==◌, if◌then◌else◌, ⊤};
 ghost use Rattle.nano_json_schema.specs.Structs.{json_of};
 ghost use Rattle.nano_ron_schema.specs.Structs.{ron_of};
 ghost use Rattle.nano_schema.specs.declared.choices.Either.TheVariants.{First, Later};
@@ -222,7 +222,11 @@ impl StructSchema for Count {
 
     ghost view = { λ x. tt };
 
-    fn make(values: Self::Values) -> Self {
+    fn make(values: Self::Values) -> Self
+        ensures seen { ⟦<Count as StructSchema>⟧.view result ≡ values }
+        ensures skipped { (result.hits ≡ 1)
+            × (⟦<u64 as std::default::Default>⟧.is_default result.found) }
+    {
         let () = values;
         Count {
             hits: 1,
@@ -358,7 +362,13 @@ impl EnumSchema for Step {
       | Stop v0 ↦ Later (Later tt)
     ] };
 
-    fn make(values: Self::Values) -> Self {
+    fn make(values: Self::Values) -> Self
+        ensures seen { ⟦<Step as EnumSchema>⟧.view result ≡ values }
+        ensures skipped { elim result [
+          | Stop v0 ↦ ⟦<u64 as std::default::Default>⟧.is_default v0
+          | _ ↦ ⊤
+        ] }
+    {
         let later = match values {
             Either::First(values) => {
                 let () = values;

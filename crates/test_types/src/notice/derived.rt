@@ -1,6 +1,6 @@
 //! Written by derive_files: how the types of the module above are encoded.
 
-ghost use Rattle.std.specs.Prelude.{codes, ◌==◌, if◌then◌else◌, refl};
+ghost use Rattle.std.specs.Prelude.{codes, ◌==◌, if◌then◌else◌, ⊤, ◌≡◌, refl};
 ghost use Rattle.nano_schema.specs.declared.choices.Either.TheVariants.{First, Later};
 ghost use Rattle.nano_schema.specs.UserTypes.{LegalVariant, agreed};
 ghost use Rattle.nano_bin_schema.specs.Enums.{bin_choice};
@@ -80,7 +80,13 @@ impl EnumSchema for Notice {
       | Say v0 v1 v2 ↦ Later (Later (v0, v1))
     ] };
 
-    fn make(values: Self::Values) -> Self {
+    fn make(values: Self::Values) -> Self
+        ensures seen { ⟦<Notice as EnumSchema>⟧.view result ≡ values }
+        ensures skipped { elim result [
+          | Say v0 v1 v2 ↦ v2 ≡ 7
+          | _ ↦ ⊤
+        ] }
+    {
         let later = match values {
             Either::First(values) => {
                 let () = values;

@@ -1,6 +1,6 @@
 //! Written by derive_files: how the types of the module above are encoded.
 
-ghost use Rattle.std.specs.Prelude.{codes, ◌==◌, if◌then◌else◌, refl};
+ghost use Rattle.std.specs.Prelude.{codes, ◌==◌, if◌then◌else◌, ◌≡◌, refl};
 ghost use Rattle.nano_schema.specs.UserTypes.{text, agreed};
 ghost use Rattle.nano_bin_schema.specs.Structs.{bin_of};
 ghost use Rattle.nano_json_schema.specs.Structs.{json_of};
@@ -61,7 +61,10 @@ impl StructSchema for Site {
 
     ghost view = { λ x. ((x.host, x.port), (x.page, (x.tags, x.owner))) };
 
-    fn make(values: Self::Values) -> Self {
+    fn make(values: Self::Values) -> Self
+        ensures seen { ⟦<Site as StructSchema>⟧.view result ≡ values }
+        ensures skipped { ⟦<u64 as std::default::Default>⟧.is_default result.hits }
+    {
         let ((host, port), (page, (tags, owner))) = values;
         Site {
             host,

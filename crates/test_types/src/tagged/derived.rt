@@ -1,6 +1,6 @@
 //! Written by derive_files: how the types of the module above are encoded.
 
-ghost use Rattle.std.specs.Prelude.{codes, ◌==◌, if◌then◌else◌, refl};
+ghost use Rattle.std.specs.Prelude.{codes, ◌==◌, if◌then◌else◌, ◌≡◌, refl};
 ghost use Rattle.nano_bin_schema.specs.Structs.{bin_of, both_are_read};
 ghost use Rattle.nano_schema.specs.UserTypes.{agreed, seen_agrees, pair_agrees, option_agrees};
 ghost use Rattle.nano_schema.specs.UserTypes.{list_agrees};
@@ -44,7 +44,10 @@ impl<A: Value, B: Value> StructSchema for Tagged<A, B> {
 
     ghost view = { λ x. ((x.first, x.second), (x.more, x.times)) };
 
-    fn make(values: Self::Values) -> Self {
+    fn make(values: Self::Values) -> Self
+        ensures seen { ⟦<Tagged<A, B> as StructSchema>⟧.view result ≡ values }
+        ensures skipped { ⟦<u64 as std::default::Default>⟧.is_default result.hits }
+    {
         let ((first, second), (more, times)) = values;
         Tagged {
             first,
