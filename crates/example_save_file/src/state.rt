@@ -12,6 +12,9 @@ pub struct State {
     pub times: HashMap<String, u64>,
     /// Who plays, if that is known.
     pub player: Option<String>,
+    /// Whether it has changed since it was saved, which no file says.
+    // nanoserde: skip
+    pub has_changed: bool,
 }
 
 mod derived;

@@ -1,6 +1,6 @@
 //! Written by derive_files: how the types of the module above are encoded.
 
-ghost use Rattle.std.specs.Prelude.{codes, ◌==◌, if◌then◌else◌, refl};
+ghost use Rattle.std.specs.Prelude.{codes, ◌==◌, if◌then◌else◌, ◌≡◌, refl};
 ghost use Rattle.nano_json_schema.specs.Structs.{json_of};
 ghost use Rattle.nano_schema.specs.UserTypes.{agreed};
 ghost use Rattle.nano_ron_schema.specs.Structs.{ron_of};
@@ -38,12 +38,16 @@ impl StructSchema for State {
 
     ghost view = { λ x. (x.coins, (x.times, x.player)) };
 
-    fn make(values: Self::Values) -> Self {
+    fn make(values: Self::Values) -> Self
+        ensures seen { ⟦<State as StructSchema>⟧.view result ≡ values }
+        ensures skipped { ⟦<bool as std::default::Default>⟧.is_default result.has_changed }
+    {
         let (coins, (times, player)) = values;
         State {
             coins,
             times,
             player,
+            has_changed: std::default::Default::default(),
         }
     }
 }
