@@ -9,7 +9,8 @@ use Rattle.nano_grammar.specs.Codec.{Grammar, IsEncoding, BeginsValue}
 use Rattle.nano_grammar.specs.Outcomes.{HoldsNul, Report, Position, IsMadeAt, Uncut, Stops, Read}
 use Rattle.nano_grammar.specs.Outcomes.{ReadsNoneAndEnds, TookNext, GoesWrong, given_up}
 use Rattle.nano_values.specs.Values.{Encodings, HoldsValues, IsNext, TakesFirst, TakesValue, IsOver}
-use Rattle.nano_values.specs.Values.{NoneIsNext, TakesNone, IsFirst, TakesValues}
+use Rattle.nano_values.specs.Values.{NoneIsNext, TakesNone, IsFirst, TakesValues, no_token, a_nul}
+use Rattle.nano_values.specs.Values.{no_value as goes_wrong}
 use Rattle.nano_grammar.proofs.TokensLaws.{CutLaws, leaves_split, leaves_append, leaves_after, begins_after, same_at, same_end}
 use Rattle.nano_grammar.proofs.FaultLaws.{nothing_decodes}
 use Rattle.nano_grammar.proofs.TokenCalls.{fails_ended}
@@ -76,7 +77,7 @@ module _ {T : Type 0} {c : Cutting T} {g : Grammar T} (r : CutLaws c g) (bof : T
     -- no first token is cut
     pub nothing_first : {last : At T} {full : Type 0} {bytes : List ℕ} {old new : Position T} {e : Report}
         → old.at.token ≡ bof → Stops last (Uncut c.cut c.breaks old new) full old new e
-        → TakesNone c.cut S bof r.end last bytes old new e
+        → TakesNone c.cut c.breaks S bof r.end last bytes old new e
     nothing_first {old = old} is h = record {
       fails = record {
         rejected = λ known first n.
@@ -84,6 +85,7 @@ module _ {T : Type 0} {c : Cutting T} {g : Grammar T} (r : CutLaws c g) (bof : T
         made = h.fails.made;
         place = h.fails.place;
       };
+      why = λ known. no_token is (h.fails.rejected known);
       ended = h.ended;
     }
 
@@ -97,7 +99,7 @@ module _ {T : Type 0} {c : Cutting T} {g : Grammar T} (r : CutLaws c g) (bof : T
     -- no value is encoded from the next token on, which is not the end
     pub no_value : {last : At T} {bytes : List ℕ} {old begun new : Position T} {e : Report}
         → TakesFirst c.cut bof old begun → begun.at.token ≢ r.end → ReadsNoneAndEnds c.cut c.breaks S begun new last e
-        → TakesNone c.cut S bof r.end last bytes old new e
+        → TakesNone c.cut c.breaks S bof r.end last bytes old new e
     no_value {old = old} {begun} b other h = record {
       fails = record {
         rejected = λ known first n.
@@ -108,13 +110,14 @@ module _ {T : Type 0} {c : Cutting T} {g : Grammar T} (r : CutLaws c g) (bof : T
         made = h.fails.made;
         place = advances_append (moves_advance b.place) h.fails.place;
       };
+      why = λ known. goes_wrong begun b other (h.fails.rejected known);
       ended = h.ended;
     }
 
     -- a NUL stands in the text, of which nothing else is left
     pub nul_follows : {last : At T} {bytes : List ℕ} {old begun new : Position T} {e : Report}
         → TakesFirst c.cut bof old begun → begun.at.token ≡ r.end → HoldsNul bytes → IsMadeAt begun.place e
-        → new ≡ given_up last begun → TakesNone c.cut S bof r.end last bytes old new e
+        → new ≡ given_up last begun → TakesNone c.cut c.breaks S bof r.end last bytes old new e
     nul_follows {last} {old = old} {begun} {new} b is nul made given = record {
       fails =
           fails_ended {mid = begun} last given (record {
@@ -128,6 +131,8 @@ module _ {T : Type 0} {c : Cutting T} {g : Grammar T} (r : CutLaws c g) (bof : T
             made = made;
             place = moves_advance b.place;
           });
+      why = λ known.
+          a_nul begun b is nul (ap (λ (p : Position T). p.place.line) given) (ap (λ (p : Position T). p.place.col) given);
       ended = ap (λ (p : Position T). p.at) given;
     }
 

@@ -4,6 +4,7 @@ use Rattle.nano_value.specs.Meaning.{Meaning}
 use Rattle.nano_grammar.specs.Outcomes.{Position, HoldsNul, Stops, given_up}
 use Rattle.nano_values.specs.Values.{IsFirst, IsOver, TakesValue, TakesNone}
 use Rattle.nano_values.specs.Values.{TakesFirst as TakesFirstBy}
+use Rattle.nano_json_tokens.specs.Breaks.{Breaks}
 use Rattle.nano_json_tokens.specs.Cut.{Cut}
 use Rattle.nano_json_tokens.specs.Outcomes.{position, report, IsMadeAt, Uncut, NoCapacity}
 use Rattle.nano_json_tokens.specs.State.{ended, pending}
@@ -35,7 +36,7 @@ module _ (encodes : List Token → Meaning → Type 0) (old new : Values) where
 
   -- no value is encoded there, and nothing is left
   pub record Rejects (e : DeJsonErr) : Type 0 where
-    pub none : TakesNone Cut encodes bof end ended old.text.now (standing old) (standing new)
+    pub none : TakesNone Cut Breaks encodes bof end ended old.text.now (standing old) (standing new)
         (report e)
     pub nothing : new.text.now ≡ []
 

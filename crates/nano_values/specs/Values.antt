@@ -1,8 +1,8 @@
 -- Values one after the other in a text, over any tokens.
-use Rattle.std.specs.Prelude.{◌≡◌, ◌≢◌, ◌⊎◌, ℕ, List, [], ◌∷◌, ◌++◌}
+use Rattle.std.specs.Prelude.{◌≡◌, ◌≢◌, ◌⊎◌, ℕ, false, List, [], ◌∷◌, ◌++◌}
 use Rattle.nano_text.specs.Place.{remaining_text}
 use Rattle.nano_grammar.specs.Tokens.{At, Begins, Spans, DecodesToNothing}
-use Rattle.nano_grammar.specs.Outcomes.{HoldsNul, Report, Position, Moved, Fails}
+use Rattle.nano_grammar.specs.Outcomes.{HoldsNul, Report, Position, Moved, Fails, Uncut, GoesWrong}
 
 -- ==== what a text holds
 
@@ -67,8 +67,22 @@ module _ {T V : Type 0} (cut : List ℕ → T → List ℕ → Type 0) (encodes 
   NoneIsNext end bytes now = (first : At T) → IsNext cut bof now first
       → DecodesToNothing cut encodes first × (first.token ≡ end → HoldsNul bytes)
 
+module _ {T V : Type 0} (cut : List ℕ → T → List ℕ → Type 0) (breaks : List ℕ → List ℕ → Type 0)
+    (encodes : List T → V → Type 0) (bof end : T) where
+  -- why no value is taken, and where the reader stands: where the text breaks, of which no first
+  -- token is cut; where the value goes wrong that the next token begins; or where the next token is
+  -- the end, and a NUL stands in the text
+  pub data WhyNone (bytes : List ℕ) (old new : Position T) : Type 0 where
+    no_token : old.at.token ≡ bof → Uncut cut breaks old new → WhyNone bytes old new
+    no_value : (first : Position T) → TakesFirst cut bof old first → first.at.token ≢ end
+        → GoesWrong cut breaks encodes first new → WhyNone bytes old new
+    a_nul : (first : Position T) → TakesFirst cut bof old first → first.at.token ≡ end
+        → HoldsNul bytes → new.place.line ≡ first.place.line → new.place.col ≡ first.place.col
+        → WhyNone bytes old new
+
   -- no value is taken, and nothing is left
-  pub record TakesNone (end : T) (last : At T) (bytes : List ℕ) (old new : Position T) (e : Report)
+  pub record TakesNone (last : At T) (bytes : List ℕ) (old new : Position T) (e : Report)
       : Type 0 where
-    pub fails : Fails (NoneIsNext end bytes old.at) old new e
+    pub fails : Fails (NoneIsNext cut encodes bof end bytes old.at) old new e
+    pub why : e.memory ≡ false → WhyNone bytes old new
     pub ended : new.at ≡ last

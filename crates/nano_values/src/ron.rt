@@ -39,8 +39,8 @@ impl<'a> Values<'a> {
     ///
     /// No value is encoded there with one more token or the end after it, or memory ran out
     /// (`memory`). Where the values are at an end and a NUL stands in the text, the message is
-    /// `Cannot parse end `. The error's line and column, from 0, are those of the characters taken.
-    /// After an error nothing is left: each later call returns none.
+    /// `Cannot parse end `. The error's line and column, from 0, are those where the next value goes
+    /// wrong, or where the text breaks. After an error nothing is left: each later call returns none.
     pub fn next<T: DeRon>(&mut self, alloc: Global) -> Result<Option<T>, DeRonErr>
         ensures taken { MatchResult result
             (Gives T.ron.encoding.encodes self.old self.new T.means)
