@@ -11,7 +11,8 @@ what rejects a body that breaks the clause.
 
 The script fails on a clause without a line, or with two; on a line without a clause, and on one with
 another count; on a mutant that no line names, and on a name of none; on a line with neither mutant nor
-reason; and on a mutant whose old text does not stand exactly once in its file. So it does on a line of
+reason; on a mutant whose old text does not stand exactly once in its file, and on one whose first line does
+not name the goal that is false, as `goal: GOAL of FUNCTION`. So it does on a line of
 tools/wrong_bodies.tsv whose mutants or whose case are not there, and on a crate with mutants whose row in
 docs/GUARANTEES.md has other counts. Usage, at the top of the repository: python3 tools/check_mutants.py
 """
@@ -125,9 +126,14 @@ def faults_of_mutants(table):
 
 
 def faults_of_edit(path):
-    """Old texts that do not stand exactly once in their file."""
+    """No goal of a function of the crate in the first line, and old texts that do not stand once in their file."""
     source, old = None, None
-    for line in path.read_text().splitlines():
+    lines_of_edit = path.read_text().splitlines()
+    goal = re.fullmatch(r"goal: (\S+) of (\w+)", lines_of_edit[0])
+    texts = [file.read_text() for file in path.parents[1].glob("src/**/*.rt")]
+    if not goal or not any(re.search(rf"\bfn {goal.group(2)}\b", text) for text in texts):
+        yield f"{path}: its first line names no goal of a function there"
+    for line in lines_of_edit:
         word, _, text = line.partition(":")
         text = text.removeprefix(" ")
         if word == "file":
@@ -137,7 +143,7 @@ def faults_of_edit(path):
             times = source.read_text().count(text) if source.exists() else 0
             if times != 1:
                 yield f"{path}: the old text stands {times} times in {source}"
-        elif word != "new" or old is None:
+        elif word != "goal" and (word != "new" or old is None):
             yield f"{path}: what is {line[:60]!r}?"
 
 
