@@ -12,7 +12,7 @@ what rejects a body that breaks the clause.
 The script fails on a clause without a line, or with two; on a line without a clause, and on one with
 another count; on a mutant that no line names, and on a name of none; on a line with neither mutant nor
 reason; on a mutant whose old text does not stand exactly once in its file, and on one whose first line does
-not name the goal that is false, as `goal: GOAL of FUNCTION`. So it does on a line of
+not name the goal that the check refuses, as `goal: GOAL of FUNCTION`. So it does on a line of
 tools/wrong_bodies.tsv whose mutants or whose case are not there, and on a crate with mutants whose row in
 docs/GUARANTEES.md has other counts. Usage, at the top of the repository: python3 tools/check_mutants.py
 """
