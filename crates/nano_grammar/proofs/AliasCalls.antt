@@ -123,6 +123,8 @@ module _ {T : Type 0} (alias own : List ℕ) (shape : Shape T) where
       → GivesValues Also (λ fs. holds (Own fs)) report means place result
   values_under holds report means place result h =
       MatchResult-weaker result h (λ values k fs. k (Own fs)) (λ e k. record {
-        rejected = λ no fs m. k.rejected no (Own fs) m;
+        rejected = λ no.
+            let missing = k.rejected no in
+            (missing.0, λ fs. missing.1 (Own fs), missing.2);
         made = k.made;
       })

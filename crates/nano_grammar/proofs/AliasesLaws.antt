@@ -51,6 +51,7 @@ module _ (alias own : List ℕ) where
       apart = λ name. laws.apart (own_of alias own name);
       one = λ fs. laws.one (map (under_own alias own) fs);
       is_legal = λ fs. laws.is_legal (map (under_own alias own) fs);
+      lacking = λ fs. laws.lacking (map (under_own alias own) fs);
     }
 
     -- fields that are read, of which one has a second name

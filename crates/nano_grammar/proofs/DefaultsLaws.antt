@@ -42,6 +42,7 @@ module _ {T : Type 0} {g : Grammar T} (name : List ℕ) (s : Encoding g) (missin
     apart = (required_laws name s).apart;
     one = defaulted_means_one;
     is_legal = defaulted_is_legal;
+    lacking = λ fs n m h. absurd h;
   }
 
   -- a field that may be missing, and has a default then

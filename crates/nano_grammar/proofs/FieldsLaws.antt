@@ -26,6 +26,7 @@ module _ {T : Type 0} {g : Grammar T} (name : List ℕ) (s : Encoding g) where
     takes = λ n us. (m : Meaning) × (option_of s).encodes us m;
     means = λ fs m.
         ((last name fs ≡ None) × (m ≡ nothing)) ⊎ LastEncodes name (option_of s).encodes fs m;
+    lacks = λ fs n. ⊥;
     legal = (option_of s).legal;
   }
 
@@ -174,6 +175,7 @@ module _ {T : Type 0} {g : Grammar T} (name : List ℕ) (s : Encoding g) where
     apart = encoded_apart s;
     one = last_means_one s;
     is_legal = λ fs m h. s.laws.is_legal h.0 m h.2;
+    lacking = λ fs n m h k. let e = sym h.0 ∙ k.1 in cc e;
   }
 
   abbrev Means : List (Field T) → Meaning → Type 0
@@ -194,6 +196,7 @@ module _ {T : Type 0} {g : Grammar T} (name : List ℕ) (s : Encoding g) where
     apart = encoded_apart (option_of s);
     one = optional_means_one;
     is_legal = optional_is_legal;
+    lacking = λ fs n m h. absurd h;
   }
 
 pub both_laws : {T : Type 0} (a b : Shape T) → IsShape a → IsShape b → IsShape (both_fields a b)
@@ -207,6 +210,11 @@ both_laws a b h k = record {
       let second = b.means (others a.knows fs) in
       pair_weaker (a.means fs) a.legal second b.legal (h.is_legal fs)
       (k.is_legal (others a.knows fs));
+  lacking = λ fs name m missing means.
+      elim missing as (λ _. ⊥) [
+        | inl x ↦ h.lacking fs name means.part.0 x means.has.0
+        | inr x ↦ k.lacking (others a.knows fs) name means.part.1 x.1 means.has.1
+      ];
 }
 
 -- ==== what is read of the fields so far

@@ -13,6 +13,7 @@ module _ {T : Type 0} where
     apart = λ name us more h k. absurd h;
     one = λ fs m n h k. h ∙ sym k;
     is_legal = λ fs m h. h;
+    lacking = λ fs name m h. absurd h;
   }
 
   abbrev pub none_read : Struct T

@@ -1,6 +1,6 @@
 -- What the calls that read a struct or a choice of variants come to, whatever the tokens are.
 use Rattle.std.proofs.Common.{List, [], ◌∷◌, ◌++◌, refl, sym, ◌∙◌, ◌≡◌, ℕ, suc, Bool, true, false, ap}
-use Rattle.std.proofs.Common.{append_assoc}
+use Rattle.std.proofs.Common.{append_assoc, inl, inr}
 use Rattle.nano_value.specs.Meaning.{Meaning}
 use Rattle.nano_text.specs.Place.{text_at}
 use Rattle.nano_text.proofs.PlaceLaws.{moves_append, moves_advance}
@@ -13,8 +13,9 @@ use Rattle.nano_grammar.specs.Outcomes.{given_up}
 use Rattle.nano_grammar.proofs.ItemLaws.{same_prefix}
 use Rattle.nano_grammar.proofs.FaultLaws.{LeadsTo, first_token, goes_wrong, none_ended}
 use Rattle.nano_grammar.proofs.TokenCalls.{fails_here, none_in, none_first, none_as}
-use Rattle.nano_grammar.specs.Fields.{FieldStyle, Field, Shape, EncodedFields}
-use Rattle.nano_grammar.specs.UserOutcomes.{Misses, MeansNothing, HeldFields}
+use Rattle.nano_grammar.specs.Fields.{FieldStyle, Field, Shape, IsShape, EncodedFields}
+use Rattle.nano_grammar.specs.Fields.{both_fields, others}
+use Rattle.nano_grammar.specs.UserOutcomes.{Misses, NamesMissing, HeldFields}
 use Rattle.nano_grammar.specs.UserOutcomes.{IsUnknownAt, ReadChoice, NoChoice}
 use Rattle.nano_grammar.specs.Variants.{VariantStyle, Closed, Variants, no_variants}
 use Rattle.nano_value.specs.Sums.{tagged}
@@ -32,22 +33,41 @@ module _ {T : Type 0} {c : Cutting T} {g : Grammar T} (s : FieldStyle c g) (shap
       → Read c.cut (EncodedFields s shape) start end m
   values_read m h means = record { decodes = h.found m means; place = h.place }
 
-  pub values_not : {e : Report} → end.at.text ≡ text_at end.place end.input
+  pub values_not : {e : Report} → IsShape shape → end.at.text ≡ text_at end.place end.input
       → HeldFields s shape holds start end
-      → Misses (MeansNothing shape holds) end.place e
+      → Misses (NamesMissing shape holds e) end.place e
       → ReadsNone c.cut c.breaks (EncodedFields s shape) start end e
-  values_not text h bad = record {
+  values_not laws text h bad = record {
     rejected = λ known. record {
       here = end;
       text = text;
       moved = h.place;
       reason = wrong;
-      fault = h.missing (bad.rejected known);
+      fault = h.missing (λ fs m held.
+          let missing = bad.rejected known in
+          laws.lacking fs missing.0 m (missing.1 fs held));
       stands = (refl, refl);
     };
     made = bad.made;
     place = moves_advance h.place;
   }
+
+-- of two groups of fields, the first that is missing is one of the first group
+module _ {T : Type 0} (a b : Shape T) {first second : List (Field T) → Type 0} {e : Report} where
+  abbrev Both : Report → Type 0
+  Both = NamesMissing (both_fields a b) (λ fs. first fs × second (others a.knows fs))
+
+  pub first_missing : NamesMissing a first e → Both e
+  first_missing missing = (missing.0, λ fs held. inl (missing.1 fs held.0), missing.2)
+
+  -- or none of these is missing, and it is one of the second
+  pub later_missing : (m : Meaning) → ((fs : List (Field T)) → first fs → a.means fs m)
+      → NamesMissing b second e → Both e
+  later_missing m means missing = (
+    missing.0,
+    λ fs held. inr ((m, means fs held.0), missing.1 (others a.knows fs) held.1),
+    missing.2,
+  )
 
 -- ---- content, and what comes after it
 

@@ -19,5 +19,6 @@ module _ (alias own : List ℕ) where
       knows = λ n. bytes_eq n alias || shape.knows n;
       takes = λ n. shape.takes (own_of n);
       means = λ fs. shape.means (map under_own fs);
+      lacks = λ fs. shape.lacks (map under_own fs);
       legal = shape.legal;
     }

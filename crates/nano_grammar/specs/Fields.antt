@@ -65,11 +65,13 @@ module _ {T : Type 0} where
   others knows (f ∷ fs) = unless_known (knows f.name) f (others knows fs)
 
 -- fields of a struct: which names it knows, what may come after a known name, what a list of
--- fields means, and which meanings are legal
+-- fields means, which name the first field has that must be there and is missing from a list, and
+-- which meanings are legal
 pub record Shape (T : Type 0) : Type 1 where
   pub knows : List ℕ → Bool
   pub takes : List ℕ → List T → Type 0
   pub means : List (Field T) → Meaning → Type 0
+  pub lacks : List (Field T) → List ℕ → Type 0
   pub legal : Meaning → Type 0
 
 module _ {T : Type 0} {c : Cutting T} {g : Grammar T} (s : FieldStyle c g) where
@@ -103,25 +105,28 @@ module _ {T : Type 0} {g : Grammar T} (name : List ℕ) (s : Encoding g) where
     knows = λ n. bytes_eq n name;
     takes = λ n us. (m : Meaning) × s.encodes us m;
     means = LastEncodes name s.encodes;
+    lacks = λ fs n. (last name fs ≡ None) × (n ≡ name);
     legal = s.legal;
   }
 
--- no fields: none is known, and whatever fields a text has, they mean nothing
+-- no fields: none is known, none is missing, and whatever fields a text has, they mean nothing
 abbrev pub no_fields : {T : Type 0} → Shape T
 no_fields = record {
   knows = λ n. false;
   takes = λ n us. ⊥;
   means = λ fs m. m ≡ nothing;
+  lacks = λ fs n. ⊥;
   legal = LegalUnit;
 }
 
 -- fields and more fields, which mean the pair of what both mean; the second see only the fields
--- that the first do not know
+-- that the first do not know, and one of them is the first that is missing where none of the first is
 abbrev pub both_fields : {T : Type 0} → Shape T → Shape T → Shape T
 both_fields a b = record {
   knows = λ n. a.knows n || b.knows n;
   takes = λ n us. either (a.knows n) (a.takes n us) (b.takes n us);
   means = λ fs. IsImage paired (BothOfPair (a.means fs) (b.means (others a.knows fs)));
+  lacks = λ fs n. a.lacks fs n ⊎ (((m : Meaning) × a.means fs m) × b.lacks (others a.knows fs) n);
   legal = IsImage paired (BothOfPair a.legal b.legal);
 }
 
@@ -203,6 +208,7 @@ module _ {T : Type 0} {g : Grammar T} (name : List ℕ) (s : Encoding g) (missin
     knows = λ n. bytes_eq n name;
     takes = λ n us. (m : Meaning) × s.encodes us m;
     means = λ fs m. IsMissing fs m ⊎ LastEncodes name s.encodes fs m;
+    lacks = λ fs n. ⊥;
     legal = s.legal;
   }
 
@@ -213,12 +219,14 @@ abbrev pub Apart : {T : Type 0} → (List ℕ → List T → Type 0) → Type 0
 Apart {T} takes = (name : List ℕ) (us more : List T)
     → takes name us → takes name (us ++ more) → more ≡ []
 
--- what comes after a name can be distinguished, a list of fields means one thing, and what it
--- means is legal
+-- what comes after a name can be distinguished, a list of fields means one thing, what it means is
+-- legal, and where a field is missing it means nothing
 pub record IsShape {T : Type 0} (shape : Shape T) : Type 0 where
   pub apart : Apart shape.takes
   pub one : (fs : List (Field T)) (m n : Meaning) → shape.means fs m → shape.means fs n → m ≡ n
   pub is_legal : (fs : List (Field T)) (m : Meaning) → shape.means fs m → shape.legal m
+  pub lacking : (fs : List (Field T)) (name : List ℕ) (m : Meaning) → shape.lacks fs name
+      → shape.means fs m → ⊥
 
 -- ==== named fields with their laws: what encodes a user-defined struct
 

@@ -1,6 +1,6 @@
 -- What one call of a reader of user-defined types comes to, over any tokens.
 use Rattle.std.specs.Prelude.{◌≡◌, ◌≢◌, ℕ, Bool, true, false, List, [], ◌∷◌, ◌++◌, Result}
-use Rattle.std.specs.Prelude.{MatchResult}
+use Rattle.std.specs.Prelude.{MatchResult, codes}
 use Rattle.std.specs.declared.str.Chars.{Chars}
 use Rattle.nano_value.specs.Meaning.{Meaning}
 use Rattle.nano_text.specs.declared.place.Place.{Place}
@@ -26,6 +26,10 @@ pub record Misses (fact : Type 0) (place : Place) (e : Report) : Type 0 where
 abbrev pub IsUnknownAt : Place → List ℕ → Report → Type 0
 IsUnknownAt place name e =
     (e.memory ≡ false → e.message ≡ unknown_message name) × IsMadeAt place e
+
+-- what the error for a field that is missing says
+abbrev pub missing_message : List ℕ → List ℕ
+missing_message name = codes "Key not found " ++ name
 
 -- a name was taken from here on, and the error for it stands where that led
 pub record IsUnknownAfter {T : Type 0} (start : Position T) (after : At T) (name : List ℕ)
@@ -83,12 +87,20 @@ module _ {T : Type 0} (shape : Shape T) (holds : List (Field T) → Type 0) wher
   abbrev pub MeansNothing : Type 0
   MeansNothing = (fs : List (Field T)) (m : Meaning) → holds fs → shape.means fs m → ⊥
 
-  -- a call gives values which mean what the fields do that are held
+  -- of the fields that must be there the first that is not held is the one that the error names
+  abbrev pub NamesMissing : Report → Type 0
+  NamesMissing e =
+      (name : List ℕ)
+      × ((fs : List (Field T)) → holds fs → shape.lacks fs name)
+      × (e.message ≡ missing_message name)
+
+  -- a call gives values which mean what the fields do that are held, or names the first field that
+  -- must be there and is not held
   abbrev pub GivesValues : {A E : Type 0} → (E → Report) → (A → Meaning) → Place → Result A E
       → Type 0
   GivesValues report means place result = MatchResult result
       (λ values. (fs : List (Field T)) → holds fs → shape.means fs (means values))
-      (λ e. Misses MeansNothing place (report e))
+      (λ e. Misses (NamesMissing (report e)) place (report e))
 
 module _ {T : Type 0} {c : Cutting T} {g : Grammar T} (s : FieldStyle c g) (shape : Shape T)
     (holds : List (Field T) → Type 0) (start end : Position T) where

@@ -9,4 +9,4 @@ returns-in-Ok g c =
     let codec = g.F.JsonFieldsWithin.codec c.args.left in
     MatchResult-weaker c.values.result (c.values.ensures c.args.left)
     (λ v means. values_read json_fields codec.struct.shape (g.F.JsonFieldsWithin.means v) c.in-Ok.ensures means)
-    (λ e none. values_not json_fields codec.struct.shape refl c.in-Ok.ensures none)
+    (λ e none. values_not json_fields codec.struct.shape codec.struct.laws refl c.in-Ok.ensures none)

@@ -9,4 +9,4 @@ returns-in-Ok g c =
     let codec = g.F.JsonFields.codec in
     MatchResult-weaker c.values.result c.values.ensures
     (λ v means. values_read (fields_with g.U.Unknown.after) codec.struct.shape (codec.canonical.means v) c.in-Ok.ensures means)
-    (λ e none. values_not (fields_with g.U.Unknown.after) codec.struct.shape refl c.in-Ok.ensures none)
+    (λ e none. values_not (fields_with g.U.Unknown.after) codec.struct.shape codec.struct.laws refl c.in-Ok.ensures none)

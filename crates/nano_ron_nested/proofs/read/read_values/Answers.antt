@@ -9,4 +9,4 @@ returns-in-Ok g c =
     let shape = ((g.F.RonFieldsWithin.codec c.args.left).struct).shape in
     MatchResult-weaker c.values.result (c.values.ensures c.args.left)
     (λ values x. values_read ron_fields shape (g.F.RonFieldsWithin.means values) c.in-Ok.ensures x)
-    (λ _ x. values_not ron_fields shape refl c.in-Ok.ensures x)
+    (λ _ x. values_not ron_fields shape ((g.F.RonFieldsWithin.codec c.args.left).struct).laws refl c.in-Ok.ensures x)

@@ -9,4 +9,4 @@ returns-in-Ok g c =
     let shape = (g.F.RonFields.codec.struct).shape in
     MatchResult-weaker c.values.result c.values.ensures
     (λ values x. values_read (fields_with g.U.Unknown.after) shape (g.F.RonFields.codec.canonical.means values) c.in-Ok.ensures x)
-    (λ _ x. values_not (fields_with g.U.Unknown.after) shape refl c.in-Ok.ensures x)
+    (λ _ x. values_not (fields_with g.U.Unknown.after) shape (g.F.RonFields.codec.struct).laws refl c.in-Ok.ensures x)

@@ -1,5 +1,6 @@
 use Rattle.std.proofs.Common.{refl}
 use Rattle.nano_grammar.specs.Fields.{others}
+use Rattle.nano_grammar.proofs.UserCalls.{first_missing, later_missing}
 use Rattle.nano_json_nested.proofs.pairs.Tuple2JsonFieldsWithin.values.Goals as goal
 
 pub returns-in-Ok-values : goal.returns-in-Ok-values
@@ -13,8 +14,8 @@ pub returns-in-Err-values : goal.returns-in-Err-values
 returns-in-Err-values g c levels =
     let none = c.in-Err-values.ensures levels in
     record {
-      rejected = λ known fs m held means.
-          none.rejected known (others (g.A.JsonFieldsWithin.codec levels).struct.shape.knows fs) means.part.1 held.1 means.has.1;
+      rejected = λ known. later_missing (g.A.JsonFieldsWithin.codec levels).struct.shape (g.B.JsonFieldsWithin.codec levels).struct.shape
+          (g.A.JsonFieldsWithin.means c.in-Ok.values) (c.in-Ok.ensures levels) (none.rejected known);
       made = none.made;
     }
 
@@ -22,6 +23,7 @@ pub returns-in-Err : goal.returns-in-Err
 returns-in-Err g c levels =
     let none = c.in-Err.ensures levels in
     record {
-      rejected = λ known fs m held means. none.rejected known fs means.part.0 held.0 means.has.0;
+      rejected = λ known. first_missing (g.A.JsonFieldsWithin.codec levels).struct.shape (g.B.JsonFieldsWithin.codec levels).struct.shape
+          (none.rejected known);
       made = none.made;
     }
