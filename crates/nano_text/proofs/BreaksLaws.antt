@@ -1,15 +1,15 @@
 -- Where a reader of a lexeme stopped that stands there not, from what it took.
-use Rattle.std.proofs.Common.{◌≡◌, ℕ, ◌<◌, List, [], ◌∷◌, ◌++◌, Option, None, Bool, true, false, cond}
-use Rattle.std.proofs.Common.{Some, refl, sym, ap, ◌∙◌, arith, append-nil, flat_map, length}
+use Rattle.std.proofs.Common.{◌≡◌, ℕ, ◌<◌, List, [], ◌∷◌, ◌++◌, None, Bool, true, false, cond}
+use Rattle.std.proofs.Common.{Some, refl, sym, ap, ◌∙◌, append-nil, flat_map, length, subst, IfSome}
 use Rattle.std.specs.Char.{is_ascii_hexdigit}
 use Rattle.std.specs.List.{AllByRecursion}
 use Rattle.nano_text.specs.Breaks.{BreaksNumber, BreaksUnit, BreaksEscape, BreaksString, ended, escape}
 use Rattle.nano_text.specs.Characters.{first_is}
 use Rattle.nano_text.specs.Number.{is_sign, run_text, IsGood}
-use Rattle.nano_text.specs.Scan.{first_if, after_run}
+use Rattle.nano_text.specs.Scan.{first_if, after_run, is_minus_char}
 use Rattle.nano_text.specs.ScanLaws.{run_at}
 use Rattle.nano_text.specs.String.{piece_text}
-use Rattle.nano_text.proofs.Runs.{run_split, run_is_run, run_ends}
+use Rattle.nano_text.proofs.Runs.{run_split, run_is_run, run_ends, run_minus}
 use Rattle.nano_text.proofs.Strings.{HasRead}
 
 -- ---- numbers
@@ -30,6 +30,8 @@ number_breaks text rest taken bad = record {
   parts = run_at text;
   is_run = run_is_run text;
   signed = none_first is_sign text;
+  minus = subst (λ (left : List ℕ). IfSome (run_at text).exponent (λ e. e.minus ≡ false → first_is is_minus_char (e.digits ++ left) ≡ false))
+      (sym taken) (run_minus text);
   bad = bad;
   split = sym (ap (λ (l : List ℕ). run_text (run_at text) ++ l) taken ∙ run_split text);
   ends = rw taken (run_ends text);

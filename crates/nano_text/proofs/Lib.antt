@@ -19,3 +19,4 @@ pub mod PlaceLaws
 pub mod RollbackLaws
 pub mod Spaces
 pub mod BreaksLaws
+pub mod BreaksOnce

@@ -1,6 +1,6 @@
 -- The run that a text begins with is the only good one that it can begin with.
 use Rattle.std.proofs.Common.{◌≡◌, ℕ, ◌<◌, ◌≤◌, ◌||◌, inl, inr, List, [], ◌∷◌, ◌++◌, Bool, true}
-use Rattle.std.proofs.Common.{false, cond, refl, ap, ◌∙◌, subst, Option, Some, None, IfSome}
+use Rattle.std.proofs.Common.{false, cond, refl, sym, ap, ◌∙◌, subst, Option, Some, None, IfSome}
 use Rattle.std.proofs.Common.{append_assoc, length, arith, eqb-true, ne_eqb, leb-true}
 use Rattle.std.specs.Char.{is_ascii_digit}
 use Rattle.std.specs.Str.{all_ascii_digits}
@@ -123,6 +123,21 @@ pub run_ends : (t : List ℕ) → first_is (continues (run_at t).fraction (run_a
 unfolding run_at after_run after_whole
 run_ends t = fraction_ends (following is_ascii_digit (after_sign t)) (digits_split (after_sign t)).2
 
+-- ---- an exponent that is taken without a minus goes on with none
+
+exponent_minus : (t : List ℕ) → IfSome (exponent_at t) (λ e. e.minus ≡ false → first_is is_minus_char (e.digits ++ after_exponent t) ≡ false)
+exponent_minus [] = tt
+exponent_minus (c ∷ cs) =
+    let d = digits_split (after_one is_minus_char cs) in
+    elim (is_letter_e c) as (λ (b : Bool). IfSome {T = Exponent} (cond b (Some (record { letter = c; minus = first_is is_minus_char cs; digits = prefix is_ascii_digit (after_one is_minus_char cs) })) None) (λ e. e.minus ≡ false → first_is is_minus_char (e.digits ++ cond b (following is_ascii_digit (after_one is_minus_char cs)) (c ∷ cs)) ≡ false)) [
+      | true ↦ λ n. ap (first_is is_minus_char) (d.0 ∙ one_stop is_minus_char cs n) ∙ n
+      | false ↦ tt
+    ]
+
+pub run_minus : (t : List ℕ) → IfSome (run_at t).exponent (λ e. e.minus ≡ false → first_is is_minus_char (e.digits ++ after_run t) ≡ false)
+unfolding run_at after_run
+run_minus t = exponent_minus (after_fraction (after_whole t))
+
 -- ---- a good run is the one that is taken
 
 pub digit_range : (c : ℕ) → is_ascii_digit c ≡ true → (48 ≤ c) × (c ≤ 57)
@@ -149,7 +164,7 @@ digits_no_minus : (ds rest : List ℕ) → all_ascii_digits ds ≡ true → 0 < 
 digits_no_minus [] rest h n = absurd (omega arith)
 digits_no_minus (c ∷ ds) rest h n = digit_no_minus c (and_parts (is_ascii_digit c) (all_ascii_digits ds) h).0
 
-exponent_found : (l : ℕ) (m : Bool) (ds rest : List ℕ) → is_letter_e l ≡ true → all_ascii_digits ds ≡ true → 0 < length ds → first_is is_ascii_digit rest ≡ false
+exponent_found : (l : ℕ) (m : Bool) (ds rest : List ℕ) → is_letter_e l ≡ true → all_ascii_digits ds ≡ true → (m ≡ false → first_is is_minus_char (ds ++ rest) ≡ false) → first_is is_ascii_digit rest ≡ false
     → (exponent_at (exponent_text (Some (record { letter = l; minus = m; digits = ds })) ++ rest) ≡ Some (record { letter = l; minus = m; digits = ds }))
     × (after_exponent (exponent_text (Some (record { letter = l; minus = m; digits = ds })) ++ rest) ≡ rest)
 exponent_found l true ds rest h a n e =
@@ -157,10 +172,10 @@ exponent_found l true ds rest h a n e =
     (rw (h, r.0) refl, rw (h, r.1) refl)
 exponent_found l false ds rest h a n e =
     let r = digits_again ds rest a e in
-    let k = digits_no_minus ds rest a n in
+    let k = n refl in
     (rw (h, k, one_stop is_minus_char (ds ++ rest) k, r.0) refl, rw (h, one_stop is_minus_char (ds ++ rest) k, r.1) refl)
 
-exponent_again : (f : Option (List ℕ)) (x : Option Exponent) (rest : List ℕ) → IfSome x (λ e. is_letter_e e.letter ≡ true) → IfSome x (λ e. all_ascii_digits e.digits ≡ true) → IfSome x (λ e. 0 < length e.digits)
+exponent_again : (f : Option (List ℕ)) (x : Option Exponent) (rest : List ℕ) → IfSome x (λ e. is_letter_e e.letter ≡ true) → IfSome x (λ e. all_ascii_digits e.digits ≡ true) → IfSome x (λ e. e.minus ≡ false → first_is is_minus_char (e.digits ++ rest) ≡ false)
     → first_is (continues f x) rest ≡ false → (exponent_at (exponent_text x ++ rest) ≡ x) × (after_exponent (exponent_text x ++ rest) ≡ rest)
 exponent_again None None rest l d g e = let s = no_more_none rest e in (exponent_stop rest s, after_exponent_stop rest s) where
   no_more_none : (t : List ℕ) → first_is (continues None None) t ≡ false → first_is is_letter_e t ≡ false
@@ -213,6 +228,11 @@ exponent_good minus whole (Some ds) None g = tt
 exponent_good minus whole None (Some x) g = g.1
 exponent_good minus whole (Some ds) (Some x) g = g.1
 
+exponent_no_minus : (x : Option Exponent) (rest : List ℕ) → IfSome x (λ e. all_ascii_digits e.digits ≡ true) → IfSome x (λ e. 0 < length e.digits)
+    → IfSome x (λ e. e.minus ≡ false → first_is is_minus_char (e.digits ++ rest) ≡ false)
+exponent_no_minus None rest d g = tt
+exponent_no_minus (Some x) rest d g = λ n. digits_no_minus x.digits rest d g
+
 -- a good run without a sign begins with none
 good_no_sign : (minus : Bool) (whole : List ℕ) (f : Option (List ℕ)) (x : Option Exponent) (rest : List ℕ) → AreGoodParts minus whole f x → all_ascii_digits whole ≡ true → first_is is_sign (whole ++ (fraction_text f ++ rest)) ≡ false
 good_no_sign minus (c ∷ cs) f x rest g h = digit_no_sign c (and_parts (is_ascii_digit c) (all_ascii_digits cs) h).0
@@ -220,16 +240,31 @@ good_no_sign minus [] (Some ds) x rest g h = refl
 good_no_sign minus [] None None rest g h = absurd (omega (arith, g.0))
 good_no_sign minus [] None (Some x) rest g h = absurd (omega (arith, g.0))
 
-pub run_again : (r : Run) (rest : List ℕ) → IsRun r → IsGood r → first_is (continues r.fraction r.exponent) rest ≡ false → (run_at (run_text r ++ rest) ≡ r) × (after_run (run_text r ++ rest) ≡ rest)
+-- what a run writes before its digits
+run_parts : (r : Run) (rest : List ℕ) → run_text r ++ rest ≡ sign_text r.sign ++ (r.whole ++ (fraction_text r.fraction ++ (exponent_text r.exponent ++ rest)))
+run_parts r rest = simp append_assoc
+
+-- a run that has its signs and is as long as it goes is the one that is taken, good or not
+pub signed_run_again : (r : Run) (rest : List ℕ) → IsRun r → (r.sign ≡ None → first_is is_sign (run_text r ++ rest) ≡ false)
+    → IfSome r.exponent (λ e. e.minus ≡ false → first_is is_minus_char (e.digits ++ rest) ≡ false)
+    → first_is (continues r.fraction r.exponent) rest ≡ false → (run_at (run_text r ++ rest) ≡ r) × (after_run (run_text r ++ rest) ≡ rest)
 unfolding run_at after_run after_whole after_sign
-run_again r rest h g e =
+signed_run_again r rest h signed minus e =
     let tail3 = exponent_text r.exponent ++ rest in
     let tail2 = fraction_text r.fraction ++ tail3 in
     let tail1 = r.whole ++ tail2 in
-    let whole_text : run_text r ++ rest ≡ sign_text r.sign ++ tail1 = simp append_assoc in
-    let x = exponent_again r.fraction r.exponent rest h.letter h.digits (exponent_good (is_minus r.sign) r.whole r.fraction r.exponent g) e in
+    let whole_text : run_text r ++ rest ≡ sign_text r.sign ++ tail1 = run_parts r rest in
+    let x = exponent_again r.fraction r.exponent rest h.letter h.digits minus e in
     let no3 = exponent_no_digit r.fraction r.exponent rest h.letter e in
     let f = fraction_again r.fraction tail3 h.fraction no3 (λ n. no_point r.exponent rest h.letter (subst (λ (f : Option (List ℕ)). first_is (continues f r.exponent) rest ≡ false) n e)) in
     let w = digits_again r.whole tail2 h.whole (fraction_no_digit r.fraction tail3 no3) in
-    let s = sign_again r.sign tail1 h.sign (λ n. good_no_sign (is_minus r.sign) r.whole r.fraction r.exponent tail3 g h.whole) in
+    let s = sign_again r.sign tail1 h.sign (λ n. subst (λ (o : Option ℕ). first_is is_sign (sign_text o ++ tail1) ≡ false) n (sym (ap (first_is is_sign) whole_text) ∙ signed n)) in
     (rw (whole_text, s.0, s.1, w.0, w.1, f.0, f.1, x.0) refl, rw (whole_text, s.1, w.1, f.1, x.1) refl)
+
+pub run_again : (r : Run) (rest : List ℕ) → IsRun r → IsGood r → first_is (continues r.fraction r.exponent) rest ≡ false → (run_at (run_text r ++ rest) ≡ r) × (after_run (run_text r ++ rest) ≡ rest)
+run_again r rest h g e =
+    let tail3 = exponent_text r.exponent ++ rest in
+    let tail1 = r.whole ++ (fraction_text r.fraction ++ tail3) in
+    signed_run_again r rest h
+    (λ n. ap (first_is is_sign) (run_parts r rest) ∙ subst (λ (o : Option ℕ). first_is is_sign (sign_text o ++ tail1) ≡ false) (sym n) (good_no_sign (is_minus r.sign) r.whole r.fraction r.exponent tail3 g h.whole))
+    (exponent_no_minus r.exponent rest h.digits (exponent_good (is_minus r.sign) r.whole r.fraction r.exponent g)) e

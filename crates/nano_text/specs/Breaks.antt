@@ -1,21 +1,24 @@
 -- Where no lexeme stands: how far a reader goes there, and what is left then.
 use Rattle.std.specs.Prelude.{◌≡◌, ℕ, ◌<◌, ◌≤◌, ◌==◌, Bool, true, false, List, [], ◌∷◌, ◌++◌}
-use Rattle.std.specs.Prelude.{flat_map, length, None}
+use Rattle.std.specs.Prelude.{flat_map, length, None, IfSome}
 use Rattle.std.specs.Char.{is_ascii_hexdigit}
 use Rattle.std.specs.List.{AllByRecursion}
 use Rattle.nano_text.specs.Characters.{first_is, quote, backslash, letter_u}
 use Rattle.nano_text.specs.Number.{Run, run_text, is_sign, IsRun, IsGood, continues}
+use Rattle.nano_text.specs.Scan.{is_minus_char}
 use Rattle.nano_text.specs.String.{CodeUnit, IsHex, IsPiece, Piece, piece_text, unit_text}
 use Rattle.nano_text.specs.String.{unit_value}
 
 -- ---- numbers
 
--- the text begins with this run, which has its sign, is as long as it goes and is not good, and that
--- is the rest
+-- the text begins with this run, which has its sign and the minus of its exponent, is as long as it
+-- goes and is not good, and that is the rest
 pub record BreaksNumber (text rest : List ℕ) : Type 0 where
   pub parts : Run
   pub is_run : IsRun parts
   pub signed : parts.sign ≡ None → first_is is_sign text ≡ false
+  pub minus : IfSome parts.exponent
+      (λ e. e.minus ≡ false → first_is is_minus_char (e.digits ++ rest) ≡ false)
   pub bad : IsGood parts → ⊥
   pub split : text ≡ run_text parts ++ rest
   pub ends : first_is (continues parts.fraction parts.exponent) rest ≡ false
