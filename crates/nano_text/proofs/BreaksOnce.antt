@@ -1,35 +1,42 @@
 -- Where a lexeme goes wrong, a reader goes to one place.
-use Rattle.std.proofs.Common.{◌≡◌, ℕ, ◌<◌, ◌≤◌, List, [], ◌∷◌, ◌++◌, false, refl, sym, ap, ◌∙◌}
-use Rattle.std.proofs.Common.{subst, arith, append_assoc, append-nil, flat_map, length, None}
-use Rattle.std.specs.Char.{is_ascii_hexdigit}
+use Rattle.std.proofs.Common.{◌≡◌, ℕ, ◌<◌, ◌≤◌, List, [], ◌∷◌, ◌++◌, true, false, refl, sym, ap, ◌∙◌}
+use Rattle.std.proofs.Common.{subst, arith, append_assoc, append-nil, flat_map, length, None, Some}
+use Rattle.std.specs.Char.{is_ascii_digit, is_ascii_hexdigit}
 use Rattle.std.specs.List.{AllByRecursion}
 use Rattle.nano_text.specs.Breaks.{BreaksNumber, BreaksUnit, BreaksPair, BreaksUnicode, BreaksEscape}
 use Rattle.nano_text.specs.Breaks.{BreaksString, IsTrailing, is_backslash, is_letter_u, is_quote}
 use Rattle.nano_text.specs.Breaks.{no_backslash, no_letter, no_second, no_trailing, no_unit, trails}
 use Rattle.nano_text.specs.Breaks.{no_pair, nothing, unicode, no_quote, ended, escape}
 use Rattle.nano_text.specs.Characters.{first_is, prefix, following}
-use Rattle.nano_text.specs.Number.{is_sign, run_text}
+use Rattle.nano_text.specs.Number.{is_sign, run_text, IsGood, IsNumber}
+use Rattle.nano_text.specs.declared.number.Number.{Number}
+use Rattle.nano_text.specs.declared.number.Number.TheVariants.{Dec}
 use Rattle.nano_text.specs.Scan.{after_run}
+use Rattle.nano_text.specs.ScanLaws.{run_at}
 use Rattle.nano_text.specs.String.{CodeUnit, IsHex, IsPiece, Piece, piece_text, unit_text, unit_value}
+use Rattle.nano_text.specs.String.{IsString}
+use Rattle.nano_text.proofs.Numbers.{number_good}
 use Rattle.nano_text.proofs.Prefixes.{prefix_all}
 use Rattle.nano_text.proofs.Runs.{signed_run_again}
 use Rattle.nano_text.proofs.Strings.{same_after_first, same_unit, same_piece, unit_of_piece, paired}
-use Rattle.nano_text.proofs.Strings.{piece_some, piece_longer}
+use Rattle.nano_text.proofs.Strings.{piece_some, piece_longer, piece_no_quote}
 
 -- ---- numbers
 
 -- the run that goes wrong is the one that is taken
+signed_run : (text rest : List ℕ) (h : BreaksNumber text rest) → h.parts.sign ≡ None → first_is is_sign (run_text h.parts ++ rest) ≡ false
+signed_run text rest h n = sym (ap (first_is is_sign) h.split) ∙ h.signed n
+
 number_after : (text rest : List ℕ) → BreaksNumber text rest → after_run text ≡ rest
 number_after text rest h =
-    let signed : h.parts.sign ≡ None → first_is is_sign (run_text h.parts ++ rest) ≡ false = λ n. sym (ap (first_is is_sign) h.split) ∙ h.signed n in
-    ap after_run h.split ∙ (signed_run_again h.parts rest h.is_run signed h.minus h.ends).1
+    ap after_run h.split ∙ (signed_run_again h.parts rest h.is_run (signed_run text rest h) h.minus h.ends).1
 
 pub number_once : (text a b : List ℕ) → BreaksNumber text a → BreaksNumber text b → a ≡ b
 number_once text a b h k = sym (number_after text a h) ∙ number_after text b k
 
 -- ---- escapes
 
-not_backslash : (text rest : List ℕ) → first_is is_backslash text ≡ false → text ≡ 92 ∷ rest → ⊥
+pub not_backslash : (text rest : List ℕ) → first_is is_backslash text ≡ false → text ≡ 92 ∷ rest → ⊥
 not_backslash text rest none is =
     let x : first_is is_backslash (92 ∷ rest) ≡ false = subst (λ (l : List ℕ). first_is is_backslash l ≡ false) is none in cc x
 
@@ -199,3 +206,65 @@ string_once text a b (escape ps after h e x) (escape qs other k f y) =
     stuck_once ps qs (92 ∷ after) (92 ∷ other) h k (at_escape after a x) (at_escape other b y) inside in
     let same : after ≡ other = cc both in
     escape_once other a b (subst (λ (t : List ℕ). BreaksEscape t a) same x) y
+
+-- ---- no lexeme stands where one goes wrong
+
+pub number_apart : (text rest left run : List ℕ) (n : Number) → BreaksNumber text rest → IsNumber text n run left → ⊥
+number_apart text rest left run n h is =
+    h.bad (subst IsGood (ap run_at h.split ∙ (signed_run_again h.parts rest h.is_run (signed_run text rest h) h.minus h.ends).0)
+    (number_good text left run n is))
+
+at_quote : (rest : List ℕ) → Stuck (34 ∷ rest)
+unfolding Stuck
+at_quote rest piece left good is = piece_no_quote piece left rest good (sym is)
+
+pub string_apart : (text rest left characters : List ℕ) → BreaksString text rest → IsString text characters left → ⊥
+string_apart text rest left characters (no_quote e n) is =
+    not_quote rest (flat_map piece_text is.pieces ++ 34 ∷ left) n (sym e ∙ is.split)
+string_apart text rest left characters (ended ps h e r) is =
+    let inside = same_after_first 34 34 text (flat_map piece_text ps) (flat_map piece_text is.pieces ++ 34 ∷ left) e is.split in
+    let x : [] ≡ 34 ∷ left =
+        stuck_once ps is.pieces [] (34 ∷ left) h is.good at_end (at_quote left) (append-nil (flat_map piece_text ps) ∙ inside) in
+    cc x
+string_apart text rest left characters (escape ps after h e breaks) is =
+    let inside =
+        same_after_first 34 34 text (flat_map piece_text ps ++ 92 ∷ after) (flat_map piece_text is.pieces ++ 34 ∷ left) e is.split in
+    let x : 92 ∷ after ≡ 34 ∷ left =
+        stuck_once ps is.pieces (92 ∷ after) (34 ∷ left) h is.good (at_escape after rest breaks) (at_quote left) inside in
+    let head : ◌≡◌ {A = ℕ} 92 34 = cc x in
+    absurd (omega (arith, head))
+
+-- ---- a decimal begins with any character that starts a number
+
+pub signed_decimal : (c : ℕ) → is_sign c ≡ true → IsNumber (c ∷ 48 ∷ 46 ∷ []) Dec (c ∷ 48 ∷ 46 ∷ []) []
+signed_decimal c h = record {
+  parts = record { sign = Some c; whole = 48 ∷ []; fraction = Some []; exponent = None };
+  is_run = record { sign = h; whole = refl; fraction = refl; letter = tt; digits = tt };
+  good = omega arith;
+  number_is = refl;
+  run_is = refl;
+  split = refl;
+  ends = refl;
+}
+
+pub digit_decimal : (c : ℕ) → is_ascii_digit c ≡ true → IsNumber (c ∷ 46 ∷ []) Dec (c ∷ 46 ∷ []) []
+digit_decimal c h = record {
+  parts = record { sign = None; whole = c ∷ []; fraction = Some []; exponent = None };
+  is_run = record { sign = tt; whole = rw h refl; fraction = refl; letter = tt; digits = tt };
+  good = omega arith;
+  number_is = refl;
+  run_is = refl;
+  split = refl;
+  ends = refl;
+}
+
+pub point_decimal : (c : ℕ) → c ≡ 46 → IsNumber (c ∷ 48 ∷ []) Dec (c ∷ 48 ∷ []) []
+point_decimal c h = record {
+  parts = record { sign = None; whole = []; fraction = Some (48 ∷ []); exponent = None };
+  is_run = record { sign = tt; whole = refl; fraction = refl; letter = tt; digits = tt };
+  good = omega arith;
+  number_is = refl;
+  run_is = ap (λ (x : ℕ). x ∷ 48 ∷ []) h;
+  split = refl;
+  ends = refl;
+}

@@ -135,7 +135,7 @@ same_piece (pair u w) (pair v z) x y h k e =
     (cc (s.0, t.0), t.1)
 
 -- no piece begins with the closing quote
-piece_no_quote : (p : Piece) (x y : List ℕ) → IsPiece p → piece_text p ++ x ≡ 34 ∷ y → ⊥
+pub piece_no_quote : (p : Piece) (x y : List ℕ) → IsPiece p → piece_text p ++ x ≡ 34 ∷ y → ⊥
 piece_no_quote (plain c) x y h e = h.0 (head_same c 34 x y e)
 piece_no_quote (escaped c) x y h e = let a = head_same 92 34 (c ∷ x) y e in absurd (omega (arith, a))
 piece_no_quote (scalar u) x y h e = let a = head_same 92 34 (117 ∷ (unit_text u ++ x)) y e in absurd (omega (arith, a))
