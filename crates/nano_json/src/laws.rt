@@ -16,8 +16,8 @@ ghost use Rattle.nano_json.specs.Written.{MayFollow};
 
 use crate::traits::{BothJson, JsonCodec};
 pub use nano_json_tokens::laws::{
-    a_text_is_cut_in_one_way, skipped_fields_are_apart, taken_tokens_begin_the_text,
-    the_end_follows_white_space,
+    a_text_breaks_at_one_place, a_text_breaks_or_is_cut, a_text_is_cut_in_one_way,
+    skipped_fields_are_apart, taken_tokens_begin_the_text, the_end_follows_white_space,
 };
 use nano_json_tokens::{DeJsonErr, DeJsonState};
 use nano_value::{ExactEq, Key, Value};

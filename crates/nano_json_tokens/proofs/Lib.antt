@@ -11,3 +11,4 @@ pub mod ScalarsLaws
 pub mod WrittenTextLaws
 pub mod NamesLaws
 pub mod QuotedNames
+pub mod BreaksOnce

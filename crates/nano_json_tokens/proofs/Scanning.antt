@@ -1,6 +1,6 @@
 -- What one scan comes to, from what the scans inside it come to.
 use Rattle.std.proofs.Common.{◌≡◌, ◌≢◌, ℕ, List, Result, string_bytes, sym, subst, ap, ◌∙◌, [], ◌∷◌}
-use Rattle.std.proofs.Common.{encode_utf8_all, refl, None}
+use Rattle.std.proofs.Common.{encode_utf8_all, refl, None, false}
 use Rattle.std.proofs.lemmas.Result.{MatchResult-weaker}
 use Rattle.std.specs.declared.str.Chars.{Chars}
 use Rattle.nano_text.specs.Place.{remaining, before_nul, held, text_at, Moves}
@@ -103,7 +103,7 @@ lexeme_breaks text rest h =
     record { space = prefix is_space text; body = following is_space text; split = s.0; skipped = s.1; ends = s.2; lexeme = h }
 
 -- and after the white space of what breaks comes what follows all white space
-breaks_lexeme : (text rest : List ℕ) → Breaks text rest → BreaksLexeme (following is_space text) rest
+pub breaks_lexeme : (text rest : List ℕ) → Breaks text rest → BreaksLexeme (following is_space text) rest
 breaks_lexeme text rest h =
     let all = prefix_all is_space h.space h.body h.skipped h.ends in
     subst (λ (body : List ℕ). BreaksLexeme body rest) (sym (ap (following is_space) h.split ∙ all.1)) h.lexeme
@@ -128,13 +128,14 @@ word_breaks text none =
     }
 
 -- a character that begins no lexeme
-pub character_breaks : (cur : ℕ) (i : Chars) → cur ≢ 0 → kind_of cur ≡ no_token
+pub character_breaks : (cur : ℕ) (i : Chars) → cur ≢ 0 → kind_of cur ≡ no_token → is_word cur ≡ false
     → BreaksCharacter (remaining cur i) (remaining cur i)
-character_breaks cur i some kind = record {
+character_breaks cur i some kind no_word = record {
   first = cur;
   after = before_nul (held i);
   is = remaining_more cur i some;
   none = λ t more left h. only_none t (cur ∷ more) left kind h;
+  no_word = no_word;
   all = refl;
 }
 

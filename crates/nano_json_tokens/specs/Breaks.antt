@@ -13,12 +13,14 @@ pub record BreaksWord (text rest : List ℕ) : Type 0 where
   pub is : BeginsWithWord word text rest
   pub none : (token : Token) → IsWord token text rest → ⊥
 
--- no lexeme begins with the first character, whatever comes after it, and that is not taken
+-- no lexeme begins with the first character, whatever comes after it, nor is it of a word, and that
+-- is not taken
 pub record BreaksCharacter (text rest : List ℕ) : Type 0 where
   pub first : ℕ
   pub after : List ℕ
   pub is : text ≡ first ∷ after
   pub none : (token : Token) (more left : List ℕ) → IsLexeme token (first ∷ more) left → ⊥
+  pub no_word : is_word first ≡ false
   pub all : rest ≡ text
 
 -- no lexeme begins the text: a number, a string or a word goes wrong, or its first character does

@@ -5,6 +5,7 @@ use Rattle.nano_grammar.specs.Tokens.{At, BeginsAt, Leaves, IsOneWay}
 use Rattle.nano_json_tokens.specs.Token.{Token, end}
 use Rattle.nano_text.specs.Characters.{is_space}
 use Rattle.nano_json_tokens.specs.Cut.{Cut}
+use Rattle.nano_json_tokens.specs.Breaks.{Breaks}
 use Rattle.nano_json_tokens.specs.Skipped.{SkippedField}
 
 -- a text is cut in one way: one token, one rest
@@ -26,3 +27,12 @@ TakenTokensBegin = (ts : List Token) (next : Token) (start : At Token)
 abbrev pub SkippedFieldsAreApart : Type 0
 SkippedFieldsAreApart = (field more : List Token)
     → SkippedField field → SkippedField (field ++ more) → more ≡ []
+
+-- where no token is cut from a text, a reader goes to one place
+abbrev pub BreaksOnce : Type 0
+BreaksOnce = (text rest left : List ℕ) → Breaks text rest → Breaks text left → rest ≡ left
+
+-- and no text both breaks and has a token cut from it
+abbrev pub BreaksOrCuts : Type 0
+BreaksOrCuts = (text rest left : List ℕ) (token : Token)
+    → Breaks text rest → Cut text token left → ⊥

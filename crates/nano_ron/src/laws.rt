@@ -16,7 +16,8 @@ ghost use Rattle.nano_ron.specs.Written.{MayFollow};
 
 use crate::traits::{BothRon, RonCodec};
 pub use nano_ron_tokens::laws::{
-    a_skipped_field_goes_on_with_a_parenthesis, a_text_is_cut_in_one_way, gaps_are_skipped,
+    a_skipped_field_goes_on_with_a_parenthesis, a_text_breaks_at_one_place,
+    a_text_breaks_or_is_cut, a_text_is_cut_in_one_way, gaps_are_skipped,
     taken_tokens_begin_the_text, the_end_follows_gaps,
 };
 use nano_ron_tokens::{DeRonErr, DeRonState};

@@ -230,7 +230,7 @@ no_gap_first (c ∷ cs) some other = elim (starts_gap c) as (λ (b : Bool). star
   | false ↦ λ e. refl
 ] refl
 
-stops_by : (text : List ℕ) (k : Kind) → kind_at text ≡ k → k ≢ no_token → k ≢ the_end → IsStop text
+pub stops_by : (text : List ℕ) (k : Kind) → kind_at text ≡ k → k ≢ no_token → k ≢ the_end → IsStop text
 stops_by text k is some other = first_stops text (no_gap_first text (λ e. some (sym is ∙ e)) (λ e. other (sym is ∙ e)))
 
 -- a lexeme does not begin with what is skipped

@@ -16,3 +16,4 @@ pub mod WrittenTextLaws
 pub mod RonLaws
 pub mod ScalarsLaws
 pub mod NamesLaws
+pub mod BreaksOnce

@@ -3,6 +3,7 @@ use Rattle.std.specs.Prelude.{◌≡◌, ◌↔◌, ℕ, List, [], ◌∷◌, �
 use Rattle.nano_grammar.specs.Tokens.{At, BeginsAt, Leaves, IsOneWay}
 use Rattle.nano_ron_tokens.specs.Token.{Token, ident, paren_open, end}
 use Rattle.nano_ron_tokens.specs.Cut.{Cut, IsGap, IsUnended}
+use Rattle.nano_ron_tokens.specs.Breaks.{Breaks}
 use Rattle.nano_ron_tokens.specs.Skipped.{SkippedField}
 
 -- a text is cut in one way: one token, one rest
@@ -32,3 +33,12 @@ abbrev pub SkippedFieldsGoOn : Type 0
 SkippedFieldsGoOn = (field more : List Token) (next : Token)
     → SkippedField field → SkippedField (field ++ next ∷ more)
     → ((name : List ℕ) × (field ≡ ident name ∷ [])) × (next ≡ paren_open)
+
+-- where no token is cut from a text, a reader goes to one place
+abbrev pub BreaksOnce : Type 0
+BreaksOnce = (text rest left : List ℕ) → Breaks text rest → Breaks text left → rest ≡ left
+
+-- and no text both breaks and has a token cut from it
+abbrev pub BreaksOrCuts : Type 0
+BreaksOrCuts = (text rest left : List ℕ) (token : Token)
+    → Breaks text rest → Cut text token left → ⊥

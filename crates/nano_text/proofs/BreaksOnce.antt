@@ -224,13 +224,13 @@ string_apart text rest left characters (no_quote e n) is =
 string_apart text rest left characters (ended ps h e r) is =
     let inside = same_after_first 34 34 text (flat_map piece_text ps) (flat_map piece_text is.pieces ++ 34 ∷ left) e is.split in
     let x : [] ≡ 34 ∷ left =
-        stuck_once ps is.pieces [] (34 ∷ left) h is.good at_end (at_quote left) (append-nil (flat_map piece_text ps) ∙ inside) in
+    stuck_once ps is.pieces [] (34 ∷ left) h is.good at_end (at_quote left) (append-nil (flat_map piece_text ps) ∙ inside) in
     cc x
 string_apart text rest left characters (escape ps after h e breaks) is =
     let inside =
-        same_after_first 34 34 text (flat_map piece_text ps ++ 92 ∷ after) (flat_map piece_text is.pieces ++ 34 ∷ left) e is.split in
+    same_after_first 34 34 text (flat_map piece_text ps ++ 92 ∷ after) (flat_map piece_text is.pieces ++ 34 ∷ left) e is.split in
     let x : 92 ∷ after ≡ 34 ∷ left =
-        stuck_once ps is.pieces (92 ∷ after) (34 ∷ left) h is.good (at_escape after rest breaks) (at_quote left) inside in
+    stuck_once ps is.pieces (92 ∷ after) (34 ∷ left) h is.good (at_escape after rest breaks) (at_quote left) inside in
     let head : ◌≡◌ {A = ℕ} 92 34 = cc x in
     absurd (omega (arith, head))
 

@@ -48,7 +48,8 @@ returns c =
       rejected = λ known t rest l. only_none t (remaining cur c.args.i.now) rest kind l;
       broken = λ known.
           character (character_breaks cur c.args.i.now c.if-self-eq0.false
-          (kind_none cur c.requires.no_punctuator c.requires.no_number (ne_eqb cur 34 c.requires.no_string) (sym c.if-is_word.ensures) (ne_eqb cur 0 c.if-self-eq0.false)));
+          (kind_none cur c.requires.no_punctuator c.requires.no_number (ne_eqb cur 34 c.requires.no_string) (sym c.if-is_word.ensures) (ne_eqb cur 0 c.if-self-eq0.false))
+          (sym c.if-is_word.ensures));
       capacity = λ memory. search rules;
       place = moved_none c.args.self.now c.args.i.now;
     }

@@ -1,0 +1,5 @@
+use Rattle.nano_json_tokens.proofs.BreaksOnce.{breaks_once}
+use Rattle.nano_json_tokens.proofs.laws.a_text_breaks_at_one_place.Goals as goal
+
+pub returns : goal.returns
+returns c = breaks_once
