@@ -125,6 +125,10 @@ module _ {T : Type 0} (alias own : List ℕ) (shape : Shape T) where
       MatchResult-weaker result h (λ values k fs. k (Own fs)) (λ e k. record {
         rejected = λ no.
             let missing = k.rejected no in
-            (missing.0, λ fs. missing.1 (Own fs), missing.2);
+            record {
+              name = missing.name;
+              lacking = λ fs. missing.lacking (Own fs);
+              said = missing.said;
+            };
         made = k.made;
       })

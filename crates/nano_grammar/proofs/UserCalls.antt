@@ -45,29 +45,32 @@ module _ {T : Type 0} {c : Cutting T} {g : Grammar T} (s : FieldStyle c g) (shap
       reason = wrong;
       fault = h.missing (λ fs m held.
           let missing = bad.rejected known in
-          laws.lacking fs missing.0 m (missing.1 fs held));
+          laws.lacking fs missing.name m (missing.lacking fs held));
       stands = (refl, refl);
     };
     made = bad.made;
     place = moves_advance h.place;
   }
 
--- of two groups of fields, the first that is missing is one of the first group
-module _ {T : Type 0} (a b : Shape T) {first second : List (Field T) → Type 0} {e : Report} where
-  abbrev Both : Report → Type 0
-  Both = NamesMissing (both_fields a b) (λ fs. first fs × second (others a.knows fs))
+-- of two groups of fields, the first that is missing is one of the first group, or none of these is
+-- missing and it is one of the second
+module _ {T : Type 0} (a b : Shape T) {first : List (Field T) → Type 0} {e : Report} where
+  pub first_missing : (second : List (Field T) → Type 0) → NamesMissing a first e
+      → NamesMissing (both_fields a b) (λ fs. first fs × second (others a.knows fs)) e
+  first_missing second missing = record {
+    name = missing.name;
+    lacking = λ fs held. inl (missing.lacking fs held.0);
+    said = missing.said;
+  }
 
-  pub first_missing : NamesMissing a first e → Both e
-  first_missing missing = (missing.0, λ fs held. inl (missing.1 fs held.0), missing.2)
-
-  -- or none of these is missing, and it is one of the second
-  pub later_missing : (m : Meaning) → ((fs : List (Field T)) → first fs → a.means fs m)
-      → NamesMissing b second e → Both e
-  later_missing m means missing = (
-    missing.0,
-    λ fs held. inr ((m, means fs held.0), missing.1 (others a.knows fs) held.1),
-    missing.2,
-  )
+  pub later_missing : {second : List (Field T) → Type 0} (m : Meaning)
+      → ((fs : List (Field T)) → first fs → a.means fs m) → NamesMissing b second e
+      → NamesMissing (both_fields a b) (λ fs. first fs × second (others a.knows fs)) e
+  later_missing m means missing = record {
+    name = missing.name;
+    lacking = λ fs held. inr ((m, means fs held.0), missing.lacking (others a.knows fs) held.1);
+    said = missing.said;
+  }
 
 -- ---- content, and what comes after it
 

@@ -87,12 +87,11 @@ module _ {T : Type 0} (shape : Shape T) (holds : List (Field T) → Type 0) wher
   abbrev pub MeansNothing : Type 0
   MeansNothing = (fs : List (Field T)) (m : Meaning) → holds fs → shape.means fs m → ⊥
 
-  -- of the fields that must be there the first that is not held is the one that the error names
-  abbrev pub NamesMissing : Report → Type 0
-  NamesMissing e =
-      (name : List ℕ)
-      × ((fs : List (Field T)) → holds fs → shape.lacks fs name)
-      × (e.message ≡ missing_message name)
+  -- the error names the first of the fields that must be there and are not held
+  pub record NamesMissing (e : Report) : Type 0 where
+    pub name : List ℕ
+    pub lacking : (fs : List (Field T)) → holds fs → shape.lacks fs name
+    pub said : e.message ≡ missing_message name
 
   -- a call gives values which mean what the fields do that are held, or names the first field that
   -- must be there and is not held

@@ -95,9 +95,9 @@ impl<A: JsonFields, B: JsonFields> JsonFields for (A, B) {
                     Err(error)
                 }
             },
-            Err(error) => {
+            Err(missing) => {
                 B::discard(second);
-                Err(error)
+                Err(missing)
             }
         }
     }

@@ -60,9 +60,9 @@ impl<A: RonFields, B: RonFields> RonFields for (A, B) {
                     Err(error)
                 }
             },
-            Err(error) => {
+            Err(missing) => {
                 B::discard(second);
-                Err(error)
+                Err(missing)
             }
         }
     }

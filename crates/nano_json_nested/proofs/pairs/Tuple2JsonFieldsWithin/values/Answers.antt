@@ -24,6 +24,6 @@ returns-in-Err g c levels =
     let none = c.in-Err.ensures levels in
     record {
       rejected = λ known. first_missing (g.A.JsonFieldsWithin.codec levels).struct.shape (g.B.JsonFieldsWithin.codec levels).struct.shape
-          (none.rejected known);
+          (g.B.JsonFieldsWithin.holds levels c.args.slots.1) (none.rejected known);
       made = none.made;
     }

@@ -24,6 +24,6 @@ returns-in-Err g c levels =
     let none = c.in-Err.ensures levels in
     record {
       rejected = λ known. first_missing (g.A.RonFieldsWithin.codec levels).struct.shape (g.B.RonFieldsWithin.codec levels).struct.shape
-          (none.rejected known);
+          (g.B.RonFieldsWithin.holds levels c.args.slots.1) (none.rejected known);
       made = none.made;
     }

@@ -23,6 +23,7 @@ pub returns-in-Err : goal.returns-in-Err
 returns-in-Err g c =
     let none = c.in-Err.ensures in
     record {
-      rejected = λ known. first_missing g.A.RonFields.codec.struct.shape g.B.RonFields.codec.struct.shape (none.rejected known);
+      rejected = λ known. first_missing g.A.RonFields.codec.struct.shape g.B.RonFields.codec.struct.shape
+          (g.B.RonFields.holds c.args.slots.1) (none.rejected known);
       made = none.made;
     }
