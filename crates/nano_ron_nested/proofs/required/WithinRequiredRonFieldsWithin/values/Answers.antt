@@ -1,12 +1,17 @@
-use Rattle.std.proofs.Common.{List, ℕ, ◌++◌, ◌∙◌, ap, refl}
+use Rattle.std.proofs.Common.{List, ℕ, ◌++◌, ◌∙◌, ap, refl, subst}
 use Rattle.std.specs.Prelude.{codes}
+use Rattle.std.specs.Option.{option_map}
+use Rattle.nano_grammar.specs.Fields.{Holds}
 use Rattle.nano_ron_nested.proofs.required.WithinRequiredRonFieldsWithin.values.Goals as goal
 
 pub returns-in-None : goal.returns-in-None
 returns-in-None g c levels = record {
   rejected = λ known. record {
     name = g.N.Label.label;
-    lacking = λ fs held. (held, refl);
+    lacking = λ fs held. (
+      subst (λ slot. Holds g.N.Label.label (g.T.NestedRon.at levels).encoding.encodes (option_map g.T.NestedRon.means slot) fs) c.in-None.is held,
+      refl,
+    );
     said = c.err_nf.ensures.0 known ∙ ap (λ (name : List ℕ). codes "Key not found " ++ name) c.text.ensures;
   };
   made = c.err_nf.ensures.1;
