@@ -60,7 +60,7 @@ def write_all(folder):
             programs.append((name, what, label))
     sources = [folder / "crates" / name / "src/measured.rt" for name, _, _ in programs[1:]]
     (folder / "crates.txt").write_text(lines + "".join(f"{name}: {below}\n" for name, _, _ in programs))
-    subprocess.run(["sh", TOP / "derive", *sources], check=True)
+    subprocess.run(["sh", TOP / "derive", *sources], check=True, capture_output=True)
     for name, _, _ in programs:
         subprocess.run(["rt", "fmt"], cwd=folder / "crates" / name, check=True, capture_output=True)
     return programs
