@@ -132,6 +132,8 @@ fn json_ends(rt: HostRuntime) {
 fn json_laws(rt: HostRuntime) {
     let alloc = rt.alloc();
     laws::a_text_is_cut_in_one_way();
+    laws::a_text_breaks_at_one_place();
+    laws::a_text_breaks_or_is_cut();
     laws::the_end_follows_white_space();
     laws::taken_tokens_begin_the_text();
     laws::skipped_fields_are_apart();

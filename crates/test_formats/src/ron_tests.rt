@@ -103,6 +103,8 @@ fn ron_ends(rt: HostRuntime) {
 fn ron_laws(rt: HostRuntime) {
     let alloc = rt.alloc();
     laws::a_text_is_cut_in_one_way();
+    laws::a_text_breaks_at_one_place();
+    laws::a_text_breaks_or_is_cut();
     laws::gaps_are_skipped();
     laws::the_end_follows_gaps();
     laws::taken_tokens_begin_the_text();

@@ -179,6 +179,8 @@ fn copies_and_laws(rt: HostRuntime) {
     holds(&rt, bytes_left(&first_place("aé😋").1) == 6, "é😋");
     laws::a_text_begins_with_one_number();
     laws::a_text_begins_with_one_string();
+    laws::a_number_breaks_at_one_place();
+    laws::a_string_breaks_at_one_place();
 }
 
 /// A format that writes a quote twice, and each other character as itself.
