@@ -1,5 +1,5 @@
 #!/usr/bin/env python3
-"""Measures the first `rt ci` of types that `derive` writes the impls of, and prints the table of docs/SPEED.md.
+"""Measures the first `rt ci` of derived types, and prints the figures of docs/SPEED.md.
 
     python3 tools/measure/derived_types.py FOLDER
 
@@ -29,11 +29,16 @@ def struct(count):
 def enum(count):
     """An enum of so many variants: unit, newtype and struct variants in turn."""
     shapes = ["", "({})", " {{ number: u32, text: String }}"]
-    variants = [f"    Variant{i:02}{shapes[i % 3].format(FIELDS[i % len(FIELDS)])},\n" for i in range(count)]
+    contents = [shapes[i % 3].format(FIELDS[i % len(FIELDS)]) for i in range(count)]
+    variants = [f"    Variant{i:02}{content},\n" for i, content in enumerate(contents)]
     return "pub enum Measured {\n" + "".join(variants) + "}\n"
 
 
-TYPES = [("struct of 12 fields", struct(12)), ("struct of 40 fields", struct(40)), ("enum of 20 variants", enum(20))]
+TYPES = [
+    ("struct of 12 fields", struct(12)),
+    ("struct of 40 fields", struct(40)),
+    ("enum of 20 variants", enum(20)),
+]
 
 
 def program(folder, name, formats, definition):
@@ -41,7 +46,8 @@ def program(folder, name, formats, definition):
     source = folder / "crates" / name / "src"
     source.mkdir(parents=True)
     module = "mod measured;\n\n" if definition else ""
-    (source / "main.rt").write_text(f"//! Measured.\n#![tactic(auto)]\n\n{module}fn main(rt: HostRuntime) {{}}\n")
+    body = f"{module}fn main(rt: HostRuntime) {{}}\n"
+    (source / "main.rt").write_text(f"//! Measured.\n#![tactic(auto)]\n\n{body}")
     if definition:
         head = f"//! A type.\n\n// nanoserde: {formats}\n/// It.\n#[derive(Debug, Drop)]\n"
         (source / "measured.rt").write_text(f"{head}{definition}\nmod derived;\n")
@@ -49,7 +55,8 @@ def program(folder, name, formats, definition):
 
 def write_all(folder):
     """Writes all programs and their impls, and gives their names with the type and the format of each."""
-    lines = subprocess.run(["sh", TOP / "vendor", folder, *SCHEMAS], check=True, capture_output=True, text=True).stdout
+    vendor = ["sh", TOP / "vendor", folder, *SCHEMAS]
+    lines = subprocess.run(vendor, check=True, capture_output=True, text=True).stdout
     below = " ".join(line.split(":")[0] for line in lines.splitlines())
     programs = [("measured_none", "no type", "all three")]
     program(folder, "measured_none", "", "")
@@ -59,7 +66,8 @@ def write_all(folder):
             program(folder, name, formats, definition)
             programs.append((name, what, label))
     sources = [folder / "crates" / name / "src/measured.rt" for name, _, _ in programs[1:]]
-    (folder / "crates.txt").write_text(lines + "".join(f"{name}: {below}\n" for name, _, _ in programs))
+    ours = "".join(f"{name}: {below}\n" for name, _, _ in programs)
+    (folder / "crates.txt").write_text(lines + ours)
     subprocess.run(["sh", TOP / "derive", *sources], check=True, capture_output=True)
     for name, _, _ in programs:
         subprocess.run(["rt", "fmt"], cwd=folder / "crates" / name, check=True, capture_output=True)
