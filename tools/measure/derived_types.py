@@ -57,7 +57,7 @@ def write_all(folder):
     """Writes all programs and their impls, and gives their names with the type and the format of each."""
     vendor = ["sh", TOP / "vendor", folder, *SCHEMAS]
     lines = subprocess.run(vendor, check=True, capture_output=True, text=True).stdout
-    below = " ".join(line.split(":")[0] for line in lines.splitlines())
+    below = " ".join(line.split(":")[0] for line in lines.splitlines() if not line.startswith("#"))
     programs = [("measured_none", "no type", "all three")]
     program(folder, "measured_none", "", "")
     for at, (what, definition) in enumerate(TYPES):
@@ -80,7 +80,7 @@ def seconds(folder, name):
     done = subprocess.run(["rt", "ci", name], cwd=folder, capture_output=True, text=True)
     after = resource.getrusage(resource.RUSAGE_CHILDREN)
     if done.returncode != 0:
-        return None
+        sys.exit(f"{name} did not pass:\n{done.stdout[-2000:]}")
     return after.ru_utime - before.ru_utime + after.ru_stime - before.ru_stime
 
 
@@ -93,8 +93,7 @@ def main():
     subprocess.run(["rt", "ci", *SCHEMAS], cwd=folder, check=True, capture_output=True)
     print("| Type | Formats | Seconds |\n|---|---|---|")
     for name, what, label in programs:
-        spent = seconds(folder, name)
-        print(f"| {what} | {label} | {'refused' if spent is None else round(spent)} |", flush=True)
+        print(f"| {what} | {label} | {round(seconds(folder, name))} |", flush=True)
 
 
 if __name__ == "__main__":
